@@ -1,6 +1,6 @@
 -- Under a lawful plan each move keeps the invariant, and that wake-ups are pending; so who sleeps
 -- with a true guard is seen to.
-use Rattle.std.proofs.Common.{◌≡◌, ◌==◌, ℕ, suc, ◌+◌, ◌-◌, ◌<◌, Bool, true, false, cond, not, ◌&&◌, ◌⊎◌, List, [], ◌∷◌, ◌++◌, length, Option, Some, None, refl, sym, ap, subst, ◌∙◌, arith, inl, inr}
+use Rattle.std.proofs.Common.{◌≡◌, ◌==◌, ℕ, suc, ◌+◌, ◌-◌, ◌<◌, ◌≤◌, Bool, true, false, cond, not, ◌&&◌, ◌⊎◌, List, [], ◌∷◌, ◌++◌, length, Option, Some, None, refl, sym, ap, subst, ◌∙◌, arith, inl, inr}
 use Rattle.std.specs.Prelude.{All, slice_get}
 use Rattle.std.proofs.lemmas.Option.{none-some, same_Some, slice_get_within}
 use Rattle.std.proofs.lemmas.List.Elements.{All-nil, All-cons, All-head, All-tail}
@@ -31,7 +31,7 @@ use Rattle.machine_events.specs.Configurations.Phase.{Idle, Entering, Waiting}
 use Rattle.machine_events.specs.Configurations.Phase.{Woken, Inside, Notifying}
 use Rattle.machine_events.specs.Events.{NoneWaits}
 use Rattle.machine_events.specs.Pending.{IsSystem, IsPending, announces, sees_to}
-use Rattle.machine_events.proofs.Facing.{guard_is, condition_is}
+use Rattle.machine_events.proofs.Facing.{guard_is, condition_is, own_guard}
 use Rattle.machine_events.proofs.Counting.{measure_of, someone_sees}
 use Rattle.machine_events.proofs.Covered.{MayStep, kept_next, condition_truth_is, signal_guard, leaves_pending, returns_pending, wakes_pending}
 use Rattle.emit_code.specs.Code.{Op, is_waited_on, signal_on, overflow_notes, telling_code}
@@ -44,7 +44,7 @@ use Rattle.emit_code.specs.Sleepers.{SleepersAreCounted}
 use Rattle.emit_code.specs.Orders.{notes_to_come, IsTestable, HasAllNotes, IsTold}
 use Rattle.emit_code.specs.Laws.{Leads, NobodyIsOwed, SomeoneSees, SleepersAreSeenTo}
 use Rattle.emit_code.proofs.Views.{next_block, place_by, place_at, phase_at, phase_of, stand, standings, stands, stands_from, goes_here, goes_unseen, goes_seen, all_woken, sleeps_from}
-use Rattle.emit_code.proofs.Stages.{refuses_in, IsAt, call_code, told_code, block_is, condition_at, open_is_guard, some_block, inside_locked, never, follows_locked, called_next, called_any, telling_notes, again_next, again_notes, tells_phase}
+use Rattle.emit_code.proofs.Stages.{refuses_in, IsAt, waited_numbered, call_code, told_code, block_is, condition_at, open_is_guard, some_block, inside_locked, never, follows_locked, called_next, called_any, telling_notes, again_next, again_notes, tells_phase}
 use Rattle.emit_code.proofs.Placed.{Loops, ArePlaced, IsSoundly, fits_there, faced_there, moment, code_is, passed_at, continues_tells, panic_tells, after_note, after_unlock, after_release, all_first, shape_of, start_position}
 use Rattle.emit_code.proofs.Counting.{asleep_counts, counted_late}
 use Rattle.emit_code.proofs.Running.{begins_here, continues_so, BodyAt, body_at, sound_late}
@@ -64,6 +64,11 @@ covered_as system state holder ran threads some is invariant pending = record { 
 
 -- ---- those that sleep
 
+-- who is in the loop of a block waits on a condition
+loop_numbered : (system : System) (told : ℕ → List Op) (timed : ℕ → ℕ → Bool) (thread past block condition : ℕ) (rest : List Op) → Loops system told timed thread past block condition rest → 1 ≤ condition
+loop_numbered system told timed thread past block condition rest loops =
+    waited_numbered system.monitor condition (ap (is_waited_on system.monitor) loops.condition_is ∙ loops.waited_on)
+
 pub well : (system : System) (told : ℕ → List Op) (timed : ℕ → ℕ → Bool) (now : Moment) → IsSystem system → IsSoundly system told timed now → WaitWell system (standings system now.threads)
 well system told timed now is sound = record {
   fits = λ client place condition at.
@@ -77,6 +82,9 @@ well system told timed now is sound = record {
       let sleeps = sleeps_from system now.threads client place condition at in
       let loops = sound.placed client sleeps.frame (Asleep sleeps.block condition sleeps.rest) sleeps.at in
       loops.condition_is ∙ sym (condition_at system client sleeps.frame loops.call sleeps.block (suc loops.left) loops.at) ∙ ap (waited_condition system client) sleeps.place_is;
+  numbered = λ client place condition at.
+      let sleeps = sleeps_from system now.threads client place condition at in
+      loop_numbered system told timed client sleeps.frame.past sleeps.block condition sleeps.rest (sound.placed client sleeps.frame (Asleep sleeps.block condition sleeps.rest) sleeps.at);
 }
 
 -- where one sleeps on the condition of a thread's block, an overflow of that signals it
@@ -108,7 +116,7 @@ whole_covered system told timed set order now sound covered thread frame number 
     let ops = continues reply otherwise rest in
     let faced = body.here.faced in
     let new_frame : Frame = record { past = frame.past; locals = locals; answer = reply } in
-    let steps : MayStep system thread place body.call body.here.block body.here.which now.state = record {
+    let steps : MayStep system thread place body.call body.here.block now.state = record {
       faced = faced;
       run = record {
         rule = set.is.rule;
@@ -116,7 +124,7 @@ whole_covered system told timed set order now sound covered thread frame number 
         is = faced.block_is;
         fits = (run_fits system.monitor system.clients now.ran _ set.is.rule set.is.scripts sound.run).state;
         inputs_fit = faced.fits_inputs;
-        guard = sym (guard_is system now.state thread place body.call body.here.block body.here.which faced) ∙ body.open_is;
+        guard = sym (guard_is system now.state thread place body.call body.here.block faced) ∙ body.open_is;
         kept_hold = covered.invariant;
       };
     } in
@@ -127,8 +135,8 @@ whole_covered system told timed set order now sound covered thread frame number 
     (subst (HasAllNotes system number) (sym told_notes) (order.notes number)) in
     covered_as system state now.holder ran (goes now.threads thread new_frame (At ops)) (put (standings system now.threads) thread (place_at system thread new_frame (At ops)) (Notifying (notes_to_come ops)))
     (goes_here system now.threads thread new_frame (At ops) (place_at system thread new_frame (At ops)) (Notifying (notes_to_come ops)) refl phase_is)
-    (subst (λ (one : List Value). AllHold one system.plan.kept) (sym state_is) (kept_next system set thread place body.call body.here.block body.here.which now.state steps))
-    (run_late system set now.state state (standings system now.threads) thread place (place_at system thread new_frame (At ops)) body.call body.here.block body.here.which (notes_to_come ops) steps
+    (subst (λ (one : List Value). AllHold one system.plan.kept) (sym state_is) (kept_next system set thread place body.call body.here.block now.state steps))
+    (run_late system set now.state state (standings system now.threads) thread place (place_at system thread new_frame (At ops)) body.call body.here.block (notes_to_come ops) steps
     (stands system now.threads thread frame (At (Run number otherwise ∷ rest)) at) covered.pending (well system told timed now set.is sound) all state_is)
 
 -- it overflowed
@@ -256,7 +264,7 @@ refused_covered system told timed set now sound covered thread frame op rest cal
     stands system now.threads thread frame (At (op ∷ rest)) there ∙ (λ i. Some (stand (place_is i) (inside_is i))) in
     covered_as system now.state now.holder ran (goes now.threads thread refused (At (Unlock ∷ []))) (put (standings system now.threads) thread goes_to (Notifying []))
     (goes_seen system now.threads thread refused (At (Unlock ∷ []))) covered.invariant
-    (refused_late system set now.state (standings system now.threads) thread place goes_to call here.block here.which here.faced closed stood covered.pending)
+    (refused_late system set now.state (standings system now.threads) thread place goes_to call here.block here.faced closed stood covered.pending (well system told timed now set.is sound))
 
 -- ---- each move
 
@@ -297,7 +305,8 @@ move_covered system told timed set order before next sound counted covered (fall
     (covered_as system before.state None before.ran (goes before.threads thread frame (Asleep move.block move.condition move.rest)) (put (standings system before.threads) thread place (Waiting (waited_condition system thread place)))
     (goes_here system before.threads thread frame (Asleep move.block move.condition move.rest) place (Waiting (waited_condition system thread place)) refl (ap Waiting waited))
     covered.invariant
-    (leaves_pending system set before.state (standings system before.threads) thread place loops.call here.block here.which here.faced
+    (leaves_pending system set before.state (standings system before.threads) thread place loops.call here.block here.faced
+    (subst (λ (one : ℕ). 1 ≤ one) (waited ∙ condition_is system thread place loops.call here.block here.faced) (loop_numbered system told timed thread frame.past move.block move.condition move.rest loops))
     (stands system before.threads thread frame (At (WaitUntil move.block move.condition ∷ move.rest)) move.at) closed covered.pending))
 move_covered system told timed set order before next sound counted covered (wakes thread frame move) =
     let place = place_by system thread frame (Some move.block) in
@@ -447,10 +456,12 @@ by_kind system told timed set now sound covered free thread frame block conditio
     let here = faced_there system told timed now set.is sound thread frame (Asleep block condition rest) at loops.call block (suc loops.left) refl loops.at in
     let open_is : guard_of system now.state thread place ≡ true = sym (open_is_guard system told timed now.state thread frame loops.call block (suc loops.left) loops.at) ∙ holds in
     let same : condition ≡ here.block.condition =
-    loops.condition_is ∙ sym (condition_at system thread frame loops.call block (suc loops.left) loops.at) ∙ condition_is system thread place loops.call here.block here.which here.faced in
+    loops.condition_is ∙ sym (condition_at system thread frame loops.call block (suc loops.left) loops.at) ∙ condition_is system thread place loops.call here.block here.faced in
+    let numbered = subst (λ (one : ℕ). 1 ≤ one) same (loop_numbered system told timed thread frame.past block condition rest loops) in
+    let own = own_guard system.monitor block here.block set.is.rule here.there numbered in
     let truth = ap (condition_truth system.monitor now.state) same
-    ∙ signal_guard system set now.state thread place loops.call here.block here.which here.faced (subst (λ (one : ℕ). condition_kind system.plan one ≡ Some kinds.Signal) same kind) ∙ open_is in
-    let counted = measure_of system set condition here.which (subst (λ (one : ℕ). IsCondition system.monitor one here.which) (sym same) here.faced.which_is) kind in
+    ∙ signal_guard system set now.state thread place loops.call here.block here.faced numbered (subst (λ (one : ℕ). condition_kind system.plan one ≡ Some kinds.Signal) same kind) ∙ open_is in
+    let counted = measure_of system set condition own.0 (subst (λ (one : ℕ). IsCondition system.monitor one own.0) (sym same) own.1.is) kind in
     elim (covered.pending.signals thread place condition (stands system now.threads thread frame (Asleep block condition rest) at) kind counted.0 counted.1) [
       | inl some ↦ someone system told timed now sound.placed free condition some.0 some.1 some.2 some.3 (announcing_sees system some.0 some.1 some.2 condition some.4)
       | inr enough ↦
@@ -465,8 +476,9 @@ late_seen_to system told timed last set order run free thread frame block condit
     let place = place_by system thread frame (Some block) in
     let here = faced_there system told timed last set.is sound thread frame (Asleep block condition rest) at loops.call block (suc loops.left) refl loops.at in
     let same : condition ≡ here.block.condition =
-    loops.condition_is ∙ sym (condition_at system thread frame loops.call block (suc loops.left) loops.at) ∙ condition_is system thread place loops.call here.block here.which here.faced in
-    let within = slice_get_within system.monitor.conditions (here.block.condition - 1) here.which here.faced.which_is.there in
+    loops.condition_is ∙ sym (condition_at system thread frame loops.call block (suc loops.left) loops.at) ∙ condition_is system thread place loops.call here.block here.faced in
+    let own = own_guard system.monitor block here.block set.is.rule here.there (subst (λ (one : ℕ). 1 ≤ one) same (loop_numbered system told timed thread frame.past block condition rest loops)) in
+    let within = slice_get_within system.monitor.conditions (here.block.condition - 1) own.0 own.1.is.there in
     let kind = at_index system.plan.kinds (condition - 1) (omega (arith, set.is.plan.kinds, within, same)) in
     by_kind system told timed set last sound (covered_late system told timed set order last run) free thread frame block condition rest at holds kind.0 kind.1
 
@@ -483,13 +495,14 @@ own_truth system told timed is now sound thread frame position block condition r
     let here = faced_there system told timed now is sound thread frame position at loops.call block (suc loops.left) place_is loops.at in
     let inputs = inputs_at loops.call place in
     let same : condition ≡ here.block.condition =
-    loops.condition_is ∙ sym (condition_at system thread frame loops.call block (suc loops.left) loops.at) ∙ condition_is system thread place loops.call here.block here.which here.faced in
-    let alike : which ≡ here.which =
-    same_Some which here.which (sym which_is.there ∙ subst (λ (one : ℕ). slice_get system.monitor.conditions (one - 1) ≡ Some here.which) (sym same) here.faced.which_is.there) in
+    loops.condition_is ∙ sym (condition_at system thread frame loops.call block (suc loops.left) loops.at) ∙ condition_is system thread place loops.call here.block here.faced in
+    let own = own_guard system.monitor block here.block is.rule here.there (subst (λ (one : ℕ). 1 ≤ one) same (loop_numbered system told timed thread frame.past block condition rest loops)) in
+    let alike : which ≡ own.0 =
+    same_Some which own.0 (sym which_is.there ∙ subst (λ (one : ℕ). slice_get system.monitor.conditions (one - 1) ≡ Some own.0) (sym same) own.1.is.there) in
     condition_truth_is system now.state inputs condition which which_is none
     ∙ ap (λ (one : Condition). truth_of (valuation now.state inputs) one.guard) alike
-    ∙ ap (truth_of (valuation now.state inputs)) here.faced.same_guard
-    ∙ sym (guard_is system now.state thread place loops.call here.block here.which here.faced)
+    ∙ ap (truth_of (valuation now.state inputs)) own.1.guard
+    ∙ sym (guard_is system now.state thread place loops.call here.block here.faced)
     ∙ sym (open_is_guard system told timed now.state thread frame loops.call block (suc loops.left) loops.at)
 
 pub nobody_owed : (system : System) (told : ℕ → List Op) (timed : ℕ → ℕ → Bool) (last : Moment) → IsSystem system → IsTold system told

@@ -1,5 +1,5 @@
 -- Functions run with the last bodies of the code of calls: those that return are those of the blocks that completed their calls.
-use Rattle.std.proofs.Common.{◌≡◌, ◌==◌, ℕ, zero, suc, ◌+◌, ◌-◌, Bool, true, false, cond, not, ◌&&◌, List, [], ◌∷◌, ◌++◌, map, Option, Some, None, refl, sym, ap, subst, ◌∙◌, arith, inl, inr}
+use Rattle.std.proofs.Common.{◌≡◌, ◌==◌, ℕ, zero, suc, ◌+◌, ◌-◌, Bool, true, false, cond, not, ◌&&◌, ◌||◌, List, [], ◌∷◌, ◌++◌, map, Option, Some, None, refl, sym, ap, subst, ◌∙◌, arith, inl, inr}
 use Rattle.std.specs.Prelude.{filter, slice_get}
 use Rattle.std.specs.Option.{option_map_or}
 use Rattle.std.proofs.lemmas.Bool.{true≢false, and_parts, eq-eqb, ne_eqb}
@@ -16,7 +16,7 @@ use Rattle.machine_implicit.specs.Scripted.{calls_of}
 use Rattle.machine_implicit.specs.Steps.{given, held, reply_of, BlockSteps}
 use Rattle.machine_events.specs.Configurations.{System, block_condition}
 use Rattle.machine_events.specs.Pending.{IsSystem}
-use Rattle.emit_code.specs.Code.{Op, is_waited_on, is_last_run}
+use Rattle.emit_code.specs.Code.{Op, is_guarded, is_last_run}
 use Rattle.emit_code.specs.Code.Op.{Lock, WaitUntil, ElseRefuse, Run, Notify, Unlock, Release}
 use Rattle.emit_code.specs.Executions.{Frame, Moment, program_with, number_in, commit_of, start, RunsBody, IsMove}
 use Rattle.emit_code.specs.Executions.IsMove.{calls, takes, passes, falls_asleep, wakes, retakes, refuses, abandons, runs_body, panics, notifies, unlocks, releases, returns}
@@ -53,8 +53,8 @@ last_told (Unlock ∷ rest) later is = last_free rest later is
 last_told (Release notes ∷ rest) later is = last_free rest later is
 
 -- a block does
-runs_passed : (system : System) (told : ℕ → List Op) (block left : ℕ) (tries waited : Bool)
-    → is_last_run (cond waited (cond tries (ElseRefuse block ∷ passed_code system told block left) (WaitUntil block (block_condition system.monitor block) ∷ passed_code system told block left))
+runs_passed : (system : System) (told : ℕ → List Op) (block left : ℕ) (tries tested : Bool)
+    → is_last_run (cond tested (cond tries (ElseRefuse block ∷ passed_code system told block left) (WaitUntil block (block_condition system.monitor block) ∷ passed_code system told block left))
     (passed_code system told block left)) ≡ false
 runs_passed system told block left true true = refl
 runs_passed system told block left false true = refl
@@ -62,7 +62,7 @@ runs_passed system told block left true false = refl
 runs_passed system told block left false false = refl
 
 runs_later : (system : System) (told : ℕ → List Op) (block left : ℕ) → is_last_run (later_code system told block (suc left)) ≡ false
-runs_later system told block left = runs_passed system told block left false (is_waited_on system.monitor (block_condition system.monitor block))
+runs_later system told block left = runs_passed system told block left (false || block_condition system.monitor block == 0) (is_guarded system.monitor block)
 
 -- so the last body of the code is that of the last block of the method
 last_is : (system : System) (told : ℕ → List Op) → IsTold system told → (thread past : ℕ) (call : Call) (block left : ℕ) → IsAt system thread past call block (suc left)

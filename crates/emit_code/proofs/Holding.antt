@@ -1,5 +1,5 @@
 -- Who holds the mutex is where the code has it.
-use Rattle.std.proofs.Common.{◌≡◌, ℕ, ◌+◌, Bool, true, false, cond, not, List, [], ◌∷◌, Option, Some, None, refl, sym, ap, subst, ◌∙◌, inl, inr}
+use Rattle.std.proofs.Common.{◌≡◌, ◌==◌, ℕ, ◌+◌, Bool, true, false, cond, not, ◌||◌, List, [], ◌∷◌, Option, Some, None, refl, sym, ap, subst, ◌∙◌, inl, inr}
 use Rattle.std.specs.Prelude.{slice_get, option_map}
 use Rattle.std.proofs.lemmas.Option.{none-some, same_Some, slice_get-map}
 use Rattle.std.proofs.lemmas.Bool.{true≢false, cases_eq, and_parts, not-true}
@@ -9,7 +9,7 @@ use Rattle.lang_monitor.specs.MonitorParts.{locals_in}
 use Rattle.machine_events.specs.declared.plan.Note.{Note}
 use Rattle.machine_events.specs.Configurations.{System, block_condition}
 use Rattle.machine_events.specs.Pending.{IsSystem}
-use Rattle.emit_code.specs.Code.{Op, is_waited_on, telling_code}
+use Rattle.emit_code.specs.Code.{Op, is_guarded, telling_code}
 use Rattle.emit_code.specs.Code.Op.{Lock, WaitUntil, ElseRefuse, Run, Notify, Unlock, Release}
 use Rattle.emit_code.specs.Executions.{Position, Frame, Thread, Moment, IsThread, goes, program_with, continues, recovers, woken_position, woken_thread, AreNotified, called_for, start, IsMove, Executes}
 use Rattle.emit_code.specs.Executions.Position.{Outside, At, Asleep, Notified}
@@ -73,8 +73,8 @@ takes_holding threads thread frame position new_position at holding other is = (
 nobody_holds : (threads : List Thread) → HasHolder threads None
 nobody_holds threads other is = absurd (none-some other is)
 
-holds_passed : (system : System) (told : ℕ → List Op) (block left : ℕ) (tries waited : Bool)
-    → is_holding (At (cond waited (cond tries (ElseRefuse block ∷ passed_code system told block left) (WaitUntil block (block_condition system.monitor block) ∷ passed_code system told block left))
+holds_passed : (system : System) (told : ℕ → List Op) (block left : ℕ) (tries tested : Bool)
+    → is_holding (At (cond tested (cond tries (ElseRefuse block ∷ passed_code system told block left) (WaitUntil block (block_condition system.monitor block) ∷ passed_code system told block left))
     (passed_code system told block left))) ≡ true
 holds_passed system told block left true true = refl
 holds_passed system told block left false true = refl
@@ -132,7 +132,7 @@ move_holding system told timed order before next placed has (takes thread frame 
     let enters = placed thread frame (At (Lock ∷ move.rest)) move.at in
     subst KeepsHolder (sym move.becomes) (takes_holding before.threads thread frame (At (Lock ∷ move.rest)) (At move.rest) move.at
     (ap (λ (ops : List Op). is_holding (At ops)) enters.rest_is
-    ∙ holds_passed system told enters.block enters.left (refuses_in system timed thread frame.past enters.call enters.block) (is_waited_on system.monitor (block_condition system.monitor enters.block))))
+    ∙ holds_passed system told enters.block enters.left (refuses_in system timed thread frame.past enters.call enters.block || block_condition system.monitor enters.block == 0) (is_guarded system.monitor enters.block)))
 move_holding system told timed order before next placed has (passes thread frame move) =
     let passed = passed_at system told timed before placed thread frame move.op move.block move.rest move.at move.tests in
     subst KeepsHolder (sym move.becomes) (goes_holding before.threads before.holder thread frame frame (At (move.op ∷ move.rest)) (At move.rest) move.at has

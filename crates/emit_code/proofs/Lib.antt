@@ -13,3 +13,4 @@ pub mod Functions
 pub mod Stillness
 pub mod Live
 pub mod Printed
+pub mod Asserting

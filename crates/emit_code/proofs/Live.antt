@@ -1,6 +1,7 @@
 -- The plan without the notes that nobody hears fits, and is lawful, where the plan does and is.
 use Rattle.std.proofs.Common.{◌≡◌, ◌==◌, ◌⊎◌, ℕ, zero, suc, ◌+◌, ◌-◌, ◌<◌, ◌≤◌, Bool, true, false, cond, not, ◌&&◌, ◌||◌, List, [], ◌∷◌, ◌++◌, map, length, Option, Some, None, IsSomeAnd, refl, sym, ap, subst, ◌∙◌, arith, inl, inr}
 use Rattle.std.specs.Prelude.{All, slice_get, option_map, unwrap_or}
+use Rattle.std.proofs.Math.Dec.{eqb-suc-zero}
 use Rattle.std.specs.List.{list_all}
 use Rattle.std.specs.List.Sorted.{IsStrictlyIncreasing}
 use native.Mathlib.Numerals.{unary_clauses}
@@ -33,7 +34,7 @@ use Rattle.machine_events.specs.Rising.{AreRising}
 use Rattle.machine_events.proofs.Places.{at_waiting, moves_to_waiting, truth_all}
 use Rattle.emit_code.specs.Code.{is_always, is_waited_on}
 use Rattle.emit_code.specs.LivePlans.{heard_notes, heard_kinds, live_plan}
-use Rattle.emit_code.proofs.Stages.{holds_always, not_false}
+use Rattle.emit_code.proofs.Stages.{holds_always, not_false, waited_numbered}
 
 -- ---- notes that are left
 
@@ -158,30 +159,29 @@ kinds_get monitor number (kind ∷ some) (suc k) =
     let same : suc (suc number + k) ≡ suc (number + suc k) = omega arith in
     kinds_get monitor (suc number) some k ∙ ap (λ (one : ℕ). option_map (heard_kind monitor one) (slice_get some k)) same
 
-kind_live : (monitor : MonitorParts) (plan : Plan) (condition : ℕ) → condition_kind (live_plan monitor plan) condition ≡ option_map (heard_kind monitor condition) (condition_kind plan condition)
-kind_live monitor plan condition =
-    let same : suc (0 + (condition - 1)) - 1 ≡ condition - 1 = omega arith in
-    kinds_get monitor 0 plan.kinds (condition - 1)
-    ∙ ap (λ (at : ℕ). option_map (λ kind. cond (option_map_or (λ which. not (is_always which.guard)) (slice_get monitor.conditions at) false) kind kinds.Broadcast) (condition_kind plan condition)) same
+kind_live : (monitor : MonitorParts) (plan : Plan) (condition : ℕ) → 1 ≤ condition → condition_kind (live_plan monitor plan) condition ≡ option_map (heard_kind monitor condition) (condition_kind plan condition)
+kind_live monitor plan condition numbered =
+    let same : suc (0 + (condition - 1)) ≡ condition = omega (arith, numbered) in
+    kinds_get monitor 0 plan.kinds (condition - 1) ∙ ap (λ (one : ℕ). option_map (heard_kind monitor one) (condition_kind plan condition)) same
 
 kind_heard : (monitor : MonitorParts) (plan : Plan) (condition : ℕ) → is_waited_on monitor condition ≡ true → condition_kind (live_plan monitor plan) condition ≡ condition_kind plan condition
 kind_heard monitor plan condition waited =
-    kind_live monitor plan condition ∙ ap (λ (test : Bool). option_map (λ kind. cond test kind kinds.Broadcast) (condition_kind plan condition)) waited ∙ by (condition_kind plan condition)
+    kind_live monitor plan condition (waited_numbered monitor condition waited) ∙ ap (λ (test : Bool). option_map (λ kind. cond test kind kinds.Broadcast) (condition_kind plan condition)) waited ∙ by (condition_kind plan condition)
   where
     by : (found : Option CondKind) → option_map (λ kind. kind) found ≡ found
     by None = refl
     by (Some kind) = refl
 
-kind_unheard : (monitor : MonitorParts) (plan : Plan) (condition : ℕ) → is_waited_on monitor condition ≡ false → condition_kind (live_plan monitor plan) condition ≡ Some kinds.Signal → ⊥
-kind_unheard monitor plan condition unwaited is =
-    by (condition_kind plan condition) (sym (kind_live monitor plan condition ∙ ap (λ (test : Bool). option_map (λ kind. cond test kind kinds.Broadcast) (condition_kind plan condition)) unwaited) ∙ is)
+kind_unheard : (monitor : MonitorParts) (plan : Plan) (condition : ℕ) → 1 ≤ condition → is_waited_on monitor condition ≡ false → condition_kind (live_plan monitor plan) condition ≡ Some kinds.Signal → ⊥
+kind_unheard monitor plan condition numbered unwaited is =
+    by (condition_kind plan condition) (sym (kind_live monitor plan condition numbered ∙ ap (λ (test : Bool). option_map (λ kind. cond test kind kinds.Broadcast) (condition_kind plan condition)) unwaited) ∙ is)
   where
     by : (found : Option CondKind) → option_map (λ kind. kinds.Broadcast) found ≡ Some kinds.Signal → ⊥
     by None same = none-some kinds.Signal same
     by (Some kind) same = absurd (cc (same_Some kinds.Broadcast kinds.Signal same))
 
-kind_broadcast : (monitor : MonitorParts) (plan : Plan) (condition : ℕ) → condition_kind plan condition ≡ Some kinds.Broadcast → condition_kind (live_plan monitor plan) condition ≡ Some kinds.Broadcast
-kind_broadcast monitor plan condition is = kind_live monitor plan condition ∙ ap (option_map (heard_kind monitor condition)) is ∙ ap Some (by (is_waited_on monitor condition))
+kind_broadcast : (monitor : MonitorParts) (plan : Plan) (condition : ℕ) → 1 ≤ condition → condition_kind plan condition ≡ Some kinds.Broadcast → condition_kind (live_plan monitor plan) condition ≡ Some kinds.Broadcast
+kind_broadcast monitor plan condition numbered is = kind_live monitor plan condition numbered ∙ ap (option_map (heard_kind monitor condition)) is ∙ ap Some (by (is_waited_on monitor condition))
   where
     by : (test : Bool) → cond test kinds.Broadcast kinds.Broadcast ≡ kinds.Broadcast
     by true = refl
@@ -194,16 +194,21 @@ last_true v [] one last holds = (and_parts (truth_of v last) true (and_parts (tr
 last_true v (first ∷ some) one last holds =
     last_true v some one last (and_parts (truth_of v first) (list_all (λ part. part) (map (truth_of v) (some ++ one ∷ last ∷ []))) holds).1
 
-unwaited_guard : (monitor : MonitorParts) (condition : ℕ) (which : Condition) → slice_get monitor.conditions (condition - 1) ≡ Some which → is_waited_on monitor condition ≡ false → is_always which.guard ≡ true
-unwaited_guard monitor condition which is unwaited =
-    not_false (is_always which.guard) (sym (ap (λ (one : Option Condition). option_map_or (λ which. not (is_always which.guard)) one false) is) ∙ unwaited)
+waited_is : (monitor : MonitorParts) (condition : ℕ) → 1 ≤ condition → is_waited_on monitor condition ≡ option_map_or (λ which. not (is_always which.guard)) (slice_get monitor.conditions (condition - 1)) false
+waited_is monitor zero numbered = absurd (omega (arith, numbered))
+waited_is monitor (suc condition) numbered =
+    ap (λ (none : Bool). not none && option_map_or (λ which. not (is_always which.guard)) (slice_get monitor.conditions (suc condition - 1)) false) (eqb-suc-zero condition)
+
+unwaited_guard : (monitor : MonitorParts) (condition : ℕ) (which : Condition) → 1 ≤ condition → slice_get monitor.conditions (condition - 1) ≡ Some which → is_waited_on monitor condition ≡ false → is_always which.guard ≡ true
+unwaited_guard monitor condition which numbered is unwaited =
+    not_false (is_always which.guard) (sym (waited_is monitor condition numbered ∙ ap (λ (one : Option Condition). option_map_or (λ which. not (is_always which.guard)) one false) is) ∙ unwaited)
 
 none_needed : (monitor : MonitorParts) (kept : List Candidate) (block condition : ℕ) → block < length monitor.blocks → 1 ≤ condition → condition ≤ length monitor.conditions
     → is_waited_on monitor condition ≡ false → NoneNeeded monitor kept block condition
 none_needed monitor kept block condition within least most unwaited =
     let found = at_index monitor.blocks block within in
     let which = at_index monitor.conditions (condition - 1) (omega (arith, least, most)) in
-    let always = unwaited_guard monitor condition which.0 which.1 unwaited in
+    let always = unwaited_guard monitor condition which.0 least which.1 unwaited in
     subst (λ (one : Option Block). IsSomeAnd one (λ block_here. IsValid (places_of monitor block_here)
     (formulas.All (hypotheses kept (block_guard monitor block ∷ negation (waiting_guard monitor condition) ∷ []))) block_here.body (negation (waiting_guard monitor condition)))) (sym found.1)
     (λ v holds.
@@ -265,7 +270,7 @@ live_is_lawful_by_counting monitor plan lawful = record {
   ];
   reading = λ number condition is reads.
       let all = lawful.reading number condition is reads in
-      record { kind = kind_broadcast monitor plan number all.kind; notes = each_live monitor plan number IsUntestedBroadcast all.notes };
+      record { kind = kind_broadcast monitor plan number is.numbered all.kind; notes = each_live monitor plan number IsUntestedBroadcast all.notes };
   broadcasts = λ condition kind. elim (cases_Bool (is_waited_on monitor condition)) [
     | inl waited ↦ each_live monitor plan condition (λ note. note.all ≡ true) (lawful.broadcasts condition (sym (kind_heard monitor plan condition waited) ∙ kind))
     | inr unwaited ↦ none_live monitor plan condition (λ note. note.all ≡ true) unwaited
@@ -275,7 +280,7 @@ live_is_lawful_by_counting monitor plan lawful = record {
       | inl passed ↦ inl (λ block_number block block_is same. by_signal number block_number waited (passed block_number block block_is same))
       | inr counted ↦ inr (counted.0, counted_live monitor plan number counted.0 waited counted.1)
     ]
-    | inr unwaited ↦ absurd (kind_unheard monitor plan number unwaited kind)
+    | inr unwaited ↦ absurd (kind_unheard monitor plan number is.numbered unwaited kind)
   ];
 }
   where
@@ -294,14 +299,14 @@ live_is_lawful monitor plan lawful = record {
   ];
   reading = λ number condition is reads.
       let all = lawful.reading number condition is reads in
-      record { kind = kind_broadcast monitor plan number all.kind; notes = each_live monitor plan number IsUntestedBroadcast all.notes };
+      record { kind = kind_broadcast monitor plan number is.numbered all.kind; notes = each_live monitor plan number IsUntestedBroadcast all.notes };
   broadcasts = λ condition kind. elim (cases_Bool (is_waited_on monitor condition)) [
     | inl waited ↦ each_live monitor plan condition (λ note. note.all ≡ true) (lawful.broadcasts condition (sym (kind_heard monitor plan condition waited) ∙ kind))
     | inr unwaited ↦ none_live monitor plan condition (λ note. note.all ≡ true) unwaited
   ];
-  signals = λ number block is kind. elim (cases_Bool (is_waited_on monitor block.condition)) [
-    | inl waited ↦ by_signal number block waited (lawful.signals number block is (sym (kind_heard monitor plan block.condition waited) ∙ kind))
-    | inr unwaited ↦ absurd (kind_unheard monitor plan block.condition unwaited kind)
+  signals = λ number block is numbered kind. elim (cases_Bool (is_waited_on monitor block.condition)) [
+    | inl waited ↦ by_signal number block waited (lawful.signals number block is numbered (sym (kind_heard monitor plan block.condition waited) ∙ kind))
+    | inr unwaited ↦ absurd (kind_unheard monitor plan block.condition numbered unwaited kind)
   ];
 }
   where

@@ -24,7 +24,7 @@ use Rattle.machine_events.specs.Configurations.{System, Standing, StandsAt, put,
 use Rattle.machine_events.specs.Configurations.Phase.{Waiting, Woken, Inside, Notifying}
 use Rattle.machine_events.specs.Events.{NoneWaits, wake_all, fires}
 use Rattle.machine_events.specs.Pending.{IsSystem, announces, IsPending}
-use Rattle.machine_events.proofs.Facing.{Faces, faces, guard_is, condition_is}
+use Rattle.machine_events.proofs.Facing.{Faces, faces, condition_is, own_guard, IsWaiter, waiter_guard}
 use Rattle.machine_events.proofs.Applying.{none_needed_applies}
 use Rattle.machine_events.proofs.Standings.{stands_within, came, mover_stands, someone_stays, unwoken_stays, none_waits}
 use Rattle.machine_events.proofs.Covered.{MayStep, condition_truth_is, signal_guard, not_both, sees_still, pending_put, wakes_pending, wakes_all_pending, takes_announced, takes_pending, signals_counted, runs_counted}
@@ -38,32 +38,32 @@ pub record WaitWell (system : System) (standings : List Standing) : Type 0 where
   pub fits : (client : ℕ) (place : Place) (condition : ℕ) → StandsAt standings client place (Waiting condition) → FitsPlace system.monitor system.clients client place
   pub busy : (client : ℕ) (place : Place) (condition : ℕ) → StandsAt standings client place (Waiting condition) → place.past < length (calls_of system.clients client)
   pub waits : (client : ℕ) (place : Place) (condition : ℕ) → StandsAt standings client place (Waiting condition) → condition ≡ waited_condition system client place
+  pub numbered : (client : ℕ) (place : Place) (condition : ℕ) → StandsAt standings client place (Waiting condition) → 1 ≤ condition
 
 -- the block of one that waits
 pub record Theirs (system : System) (client : ℕ) (place : Place) (condition : ℕ) : Type 0 where
   pub call : Call
   pub block : Block
   pub which : Condition
-  pub faced : Faces system client place call block which
-  pub which_is : IsCondition system.monitor condition which
+  pub waits : IsWaiter system client place condition call block which
 
 theirs_at : (system : System) → IsSystem system → (standings : List Standing) → WaitWell system standings → (client : ℕ) (place : Place) (condition : ℕ) → StandsAt standings client place (Waiting condition)
     → Theirs system client place condition
 theirs_at system is standings well client place condition at =
     let found = faces system client place is.rule is.scripts (well.fits client place condition at) (well.busy client place condition at) in
-    let same : condition ≡ found.1.condition = well.waits client place condition at ∙ condition_is system client place found.0 found.1 found.2 found.3 in
+    let same : condition ≡ found.1.condition = well.waits client place condition at ∙ condition_is system client place found.0 found.1 found.2 in
+    let own = own_guard system.monitor (block_at system.monitor found.0 place) found.1 is.rule found.2.block_is (subst (λ (one : ℕ). 1 ≤ one) same (well.numbered client place condition at)) in
     record {
       call = found.0;
       block = found.1;
-      which = found.2;
-      faced = found.3;
-      which_is = subst (λ (one : ℕ). IsCondition system.monitor one found.2) (sym same) found.3.which_is;
+      which = own.0;
+      waits = record {
+        faced = found.2;
+        own = same;
+        which_is = subst (λ (one : ℕ). IsCondition system.monitor one own.0) (sym same) own.1.is;
+        guard = own.1.guard;
+      };
     }
-
-guard_at_condition : (system : System) (state : List Value) (client : ℕ) (place : Place) (call : Call) (block : Block) (which : Condition) → Faces system client place call block which
-    → guard_of system state client place ≡ truth_of (valuation state (inputs_at call place)) which.guard
-guard_at_condition system state client place call block which faced =
-    guard_is system state client place call block which faced ∙ ap (truth_of (valuation state (inputs_at call place))) (sym faced.same_guard)
 
 -- ---- one takes the mutex
 
@@ -97,15 +97,16 @@ stays_late system state standings client place goes notes at pending own =
     (subst (λ (one : ℕ). condition_truth system.monitor state one ≡ true) (sym same) holds))))
 
 -- a refusal: the client's own guard is false
-pub refused_late : (system : System) → HasCountingPlan system → (state : List Value) (standings : List Standing) (client : ℕ) (place goes : Place) (call : Call) (block : Block) (which : Condition)
-    → Faces system client place call block which → guard_of system state client place ≡ false → StandsAt standings client place Inside → IsPending system state standings
+pub refused_late : (system : System) → HasCountingPlan system → (state : List Value) (standings : List Standing) (client : ℕ) (place goes : Place) (call : Call) (block : Block)
+    → Faces system client place call block → guard_of system state client place ≡ false → StandsAt standings client place Inside → IsPending system state standings → WaitWell system standings
     → IsPending system state (put standings client goes (Notifying []))
-refused_late system set state standings client place goes call block which faced guard at pending =
+refused_late system set state standings client place goes call block faced guard at pending well =
     stays_late system state standings client place goes [] at pending (λ who others_place waits kind holds.
-    let same : waited_condition system client place ≡ block.condition = condition_is system client place call block which faced in
+    let same : waited_condition system client place ≡ block.condition = condition_is system client place call block faced in
+    let numbered = subst (λ (one : ℕ). 1 ≤ one) same (well.numbered who others_place (waited_condition system client place) waits) in
     let signal = subst (λ (one : ℕ). condition_kind system.plan one ≡ Some kinds.Signal) same kind in
     absurd (not_both (condition_truth system.monitor state (waited_condition system client place)) holds
-    (ap (condition_truth system.monitor state) same ∙ signal_guard system set state client place call block which faced signal ∙ guard)))
+    (ap (condition_truth system.monitor state) same ∙ signal_guard system set state client place call block faced numbered signal ∙ guard)))
 
 -- ---- after a whole body
 
@@ -121,11 +122,11 @@ all_broadcasts condition (note ∷ notes) all has = elim (or_cases (note.conditi
       (all_broadcasts condition notes (All-tail (λ (one : Note). one.condition ≡ condition → one.all ≡ true) note notes all) later)
 ]
 
-pub run_late : (system : System) → HasCountingPlan system → (state next : List Value) (standings : List Standing) (client : ℕ) (place goes : Place) (call : Call) (block : Block) (which : Condition) (told : List Note)
-    → MayStep system client place call block which state → StandsAt standings client place Inside → IsPending system state standings → WaitWell system standings
+pub run_late : (system : System) → HasCountingPlan system → (state next : List Value) (standings : List Standing) (client : ℕ) (place goes : Place) (call : Call) (block : Block) (told : List Note)
+    → MayStep system client place call block state → StandsAt standings client place Inside → IsPending system state standings → WaitWell system standings
     → HasAllNotes system (block_at system.monitor call place) told
     → next ≡ (after (inputs_at call place) block.body state).state → IsPending system next (put standings client goes (Notifying told))
-run_late system set state next standings client place goes call block which told steps at pending well all is = record {
+run_late system set state next standings client place goes call block told steps at pending well all is = record {
   broadcasts = λ who others_place condition stands kind holds. elim (came standings client goes (Notifying told) who others_place (Waiting condition) within stands) [
     | inl mover ↦ absurd (cc mover.where_phase)
     | inr other ↦
@@ -134,14 +135,14 @@ run_late system set state next standings client place goes call block which told
           | inl was ↦
               someone_stays standings client place goes Inside (Notifying told) (λ one ones_place phase. announces phase condition) at (λ is. never is) (pending.broadcasts who others_place condition other.stood kind was)
           | inr was ↦
-              let noted = makes_true condition theirs.which (inputs_at theirs.call others_place) theirs.which_is
-              (sym (guard_at_condition system state who others_place theirs.call theirs.block theirs.which theirs.faced) ∙ was)
-              (sym (guard_at_condition system next who others_place theirs.call theirs.block theirs.which theirs.faced) ∙ holds) in
+              let noted = makes_true condition theirs.which (inputs_at theirs.call others_place) theirs.waits.which_is
+              (sym (waiter_guard system state who others_place condition theirs.call theirs.block theirs.which theirs.waits) ∙ was)
+              (sym (waiter_guard system next who others_place condition theirs.call theirs.block theirs.which theirs.waits) ∙ holds) in
               mover_stands standings client place goes Inside (Notifying told) (λ one ones_place phase. announces phase condition) at
               (all.broadcast condition (all_broadcasts condition (notes_at system.plan number) (set.lawful.broadcasts condition kind number) noted))
         ]
   ];
-  signals = runs_counted system state next standings client place goes call block which told steps at all.noted all.broadcast is pending.signals;
+  signals = runs_counted system state next standings client place goes call block told steps at all.noted all.broadcast is pending.signals;
 }
   where
     within : client < length standings
@@ -181,8 +182,8 @@ nobody_true system is state standings well note plain still who others_place at 
     let tested = idle_note system state note still in
     let theirs = theirs_at system is standings well who others_place note.condition at in
     not_both (guard_of system state who others_place) holds
-    (guard_at_condition system state who others_place theirs.call theirs.block theirs.which theirs.faced
-    ∙ sym (condition_truth_is system state (inputs_at theirs.call others_place) note.condition theirs.which theirs.which_is (plain tested.0 theirs.which theirs.which_is)) ∙ tested.1)
+    (waiter_guard system state who others_place note.condition theirs.call theirs.block theirs.which theirs.waits
+    ∙ sym (condition_truth_is system state (inputs_at theirs.call others_place) note.condition theirs.which theirs.waits.which_is (plain tested.0 theirs.which theirs.waits.which_is)) ∙ tested.1)
 
 pub passes_late : (system : System) → IsSystem system → (state : List Value) (standings : List Standing) → WaitWell system standings → (client : ℕ) (place : Place) (note : Note) (more : List Note)
     → IsTestable system.monitor note → StandsAt standings client place (Notifying (note ∷ more)) → (fires system state note ≡ false) ⊎ ((note.all ≡ false) × NoneWaits standings note.condition)

@@ -1,8 +1,8 @@
 -- Where the code of a system has its threads, and that each move keeps it.
-use Rattle.std.proofs.Common.{◌≡◌, ℕ, zero, suc, ◌+◌, ◌⊎◌, Bool, true, false, cond, not, ◌&&◌, List, [], ◌∷◌, ◌++◌, map, Option, Some, None, refl, sym, ap, subst, ◌∙◌, arith, inl, inr}
+use Rattle.std.proofs.Common.{◌≡◌, ◌==◌, ℕ, zero, suc, ◌+◌, ◌⊎◌, Bool, true, false, cond, not, ◌&&◌, ◌||◌, List, [], ◌∷◌, ◌++◌, map, Option, Some, None, refl, sym, ap, subst, ◌∙◌, arith, inl, inr}
 use Rattle.std.specs.Prelude.{All, slice_get}
 use Rattle.std.proofs.lemmas.Option.{none-some, same_Some}
-use Rattle.std.proofs.lemmas.Bool.{true≢false, and_parts, and_right}
+use Rattle.std.proofs.lemmas.Bool.{true≢false, and_parts, and_right, or_cases, or_parts, eqb-true}
 use Rattle.std.proofs.lemmas.List.Elements.{All-nil, All-cons, All-head, All-tail}
 use Rattle.lang_base.specs.declared.value.Value.{Value}
 use Rattle.machine_implicit.specs.declared.commit.Commit.{Commit}
@@ -18,7 +18,7 @@ use Rattle.machine_events.specs.declared.plan.Note.{Note}
 use Rattle.machine_events.specs.Configurations.{System, block_condition}
 use Rattle.machine_events.specs.Configurations.Phase.{Inside}
 use Rattle.machine_events.specs.Pending.{IsSystem}
-use Rattle.emit_code.specs.Code.{Op, is_waited_on, signal_on, overflow_notes, telling_code, test_code, blocks_code}
+use Rattle.emit_code.specs.Code.{Op, is_waited_on, is_guarded, signal_on, overflow_notes, telling_code, test_code, blocks_code}
 use Rattle.emit_code.specs.Code.Op.{Lock, WaitUntil, ElseRefuse, Run, Notify, Unlock, Release}
 use Rattle.emit_code.specs.Executions.{Position, Frame, Thread, Moment, IsThread, goes, program_with, is_open, commit_of, continues, tries_there, at_once, recovers, tested_block, AreNotified, called_for, new_thread, start}
 use Rattle.emit_code.specs.Executions.{IsMove}
@@ -27,7 +27,7 @@ use Rattle.emit_code.specs.Executions.IsMove.{calls, takes, passes, falls_asleep
 use Rattle.emit_code.specs.Orders.{notes_to_come, IsTestable, IsTold}
 use Rattle.emit_code.proofs.Lists.{came}
 use Rattle.emit_code.proofs.Views.{next_block, place_by, place_at, phase_at, place_there, situation_at, thread_before}
-use Rattle.emit_code.proofs.Stages.{first_of, count_of, tries_in, refuses_in, IsAt, call_code, later_code, locked_code, passed_code, told_code, Faced, faced_at, open_unwaited, some_block, tries_first, tries_later, tries_is, next_at, end_at, next_locked}
+use Rattle.emit_code.proofs.Stages.{first_of, count_of, tries_in, refuses_in, IsAt, call_code, later_code, locked_code, passed_code, told_code, Faced, faced_at, numbered_is, open_untested, tested_waited, some_block, tries_first, tries_later, tries_is, next_at, end_at, next_locked}
 use Rattle.emit_code.proofs.Stages.{now_free, now_locked, from_lock, never, locked_later, follows_locked, called_lock, called_free, called_all, telling_locked, telling_notes, telling_lock, then_lock, again_locked, again_notes}
 
 -- ---- where threads are
@@ -50,12 +50,12 @@ pub record Loops (system : System) (told : ℕ → List Op) (timed : ℕ → ℕ
   pub condition_is : condition ≡ block_condition system.monitor block
   pub rest_is : rest ≡ passed_code system told block left
 
--- at the test of a call that tries, and has no time
+-- at the test of a call that tries
 pub record Tries (system : System) (told : ℕ → List Op) (timed : ℕ → ℕ → Bool) (thread past block : ℕ) (rest : List Op) : Type 0 where
   pub call : Call
   pub left : ℕ
   pub at : IsAt system thread past call block (suc left)
-  pub tries : refuses_in system timed thread past call block ≡ true
+  pub tries : tries_in system call block ≡ true
   pub rest_is : rest ≡ passed_code system told block left
 
 -- at a body, whose guard is true
@@ -231,20 +231,30 @@ begins_placed system told timed state holder thread frame call is call_is =
       rest_is = refl;
     })
 
+-- it tries where it is refused, since it has no time, or its method asserts
+refused_tries : (system : System) (timed : ℕ → ℕ → Bool) (thread : ℕ) (frame : Frame) (call : Call) (block : ℕ) → Faced system thread frame call block
+    → (refuses_in system timed thread frame.past call block || block_condition system.monitor block == 0) ≡ true → tries_in system call block ≡ true
+refused_tries system timed thread frame call block here refused = elim (or_cases (refuses_in system timed thread frame.past call block) (block_condition system.monitor block == 0) refused) [
+  | inl untimed ↦ (and_parts (not (timed thread frame.past)) (tries_in system call block) untimed).1
+  | inr none ↦ here.asserted (sym (numbered_is system thread frame call block here) ∙ eqb-true (block_condition system.monitor block) 0 none)
+]
+
 -- with the mutex, at the test or at the body
-locked_placed : (system : System) (told : ℕ → List Op) (timed : ℕ → ℕ → Bool) (state : List Value) (thread : ℕ) (frame : Frame) (call : Call) (block left : ℕ) → IsAt system thread frame.past call block (suc left)
+locked_placed : (system : System) (told : ℕ → List Op) (timed : ℕ → ℕ → Bool) (state : List Value) (thread : ℕ) (frame : Frame) (call : Call) (block left : ℕ) → IsSystem system → IsAt system thread frame.past call block (suc left)
     → Faced system thread frame call block
-    → (tries : Bool) → refuses_in system timed thread frame.past call block ≡ tries → (waited : Bool) → is_waited_on system.monitor (block_condition system.monitor block) ≡ waited
+    → (tries : Bool) → refuses_in system timed thread frame.past call block || block_condition system.monitor block == 0 ≡ tries → (tested : Bool) → is_guarded system.monitor block ≡ tested
     → IsPlaced system told timed state (Some thread) thread frame
-    (At (cond waited (cond tries (ElseRefuse block ∷ passed_code system told block left) (WaitUntil block (block_condition system.monitor block) ∷ passed_code system told block left))
+    (At (cond tested (cond tries (ElseRefuse block ∷ passed_code system told block left) (WaitUntil block (block_condition system.monitor block) ∷ passed_code system told block left))
     (passed_code system told block left)))
-locked_placed system told timed state thread frame call block left at here true trying true waited = (refl, record { call = call; left = left; at = at; tries = trying; rest_is = refl })
-locked_placed system told timed state thread frame call block left at here false trying true waited =
-    (refl, record { call = call; left = left; at = at; patient = trying; waited_on = waited; condition_is = refl; rest_is = refl })
-locked_placed system told timed state thread frame call block left at here true trying false waited =
-    (refl, record { call = call; left = left; at = at; open_is = open_unwaited system told timed state thread frame call block (suc left) at here waited; otherwise_is = refl; rest_is = refl })
-locked_placed system told timed state thread frame call block left at here false trying false waited =
-    (refl, record { call = call; left = left; at = at; open_is = open_unwaited system told timed state thread frame call block (suc left) at here waited; otherwise_is = refl; rest_is = refl })
+locked_placed system told timed state thread frame call block left is at here true trying true tested =
+    (refl, record { call = call; left = left; at = at; tries = refused_tries system timed thread frame call block here trying; rest_is = refl })
+locked_placed system told timed state thread frame call block left is at here false trying true tested =
+    let neither = or_parts (refuses_in system timed thread frame.past call block) (block_condition system.monitor block == 0) trying in
+    (refl, record { call = call; left = left; at = at; patient = neither.0; waited_on = tested_waited system thread frame call block is here tested neither.1; condition_is = refl; rest_is = refl })
+locked_placed system told timed state thread frame call block left is at here true trying false tested =
+    (refl, record { call = call; left = left; at = at; open_is = open_untested system told timed state thread frame call block (suc left) at here tested; otherwise_is = refl; rest_is = refl })
+locked_placed system told timed state thread frame call block left is at here false trying false tested =
+    (refl, record { call = call; left = left; at = at; open_is = open_untested system told timed state thread frame call block (suc left) at here tested; otherwise_is = refl; rest_is = refl })
 
 -- the test was passed
 passed_placed : (system : System) (told : ℕ → List Op) (timed : ℕ → ℕ → Bool) (state : List Value) (holder : Option ℕ) (thread : ℕ) (frame : Frame) (call : Call) (block left : ℕ) (rest : List Op)
@@ -480,7 +490,7 @@ move_placed system told timed is order before next sound (takes thread frame mov
     subst (ArePlaced system told timed) (sym move.becomes)
     (goes_placed system told timed before before.state (Some thread) before.ran thread frame (At move.rest) sound.placed
     (subst (λ (ops : List Op). IsPlaced system told timed before.state (Some thread) thread frame (At ops)) (sym enters.rest_is)
-    (locked_placed system told timed before.state thread frame call block enters.left enters.at here (refuses_in system timed thread frame.past call block) refl (is_waited_on system.monitor (block_condition system.monitor block)) refl))
+    (locked_placed system told timed before.state thread frame call block enters.left is enters.at here (refuses_in system timed thread frame.past call block || block_condition system.monitor block == 0) refl (is_guarded system.monitor block) refl))
     (free_apart before before.state (Some thread) thread move.free))
 move_placed system told timed is order before next sound (passes thread frame move) =
     let passed = passed_at system told timed before sound.placed thread frame move.op move.block move.rest move.at move.tests in

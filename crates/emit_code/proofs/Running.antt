@@ -286,7 +286,7 @@ move_run system told timed is order before next sound (refuses thread frame move
     let trying = sound.placed thread frame (At (ElseRefuse move.block ∷ move.rest)) move.at in
     subst (λ (one : Moment). IsRun system.monitor system.clients one.ran (situation_at system one)) (sym move.becomes)
     (refused_run system told timed before thread frame (ElseRefuse move.block) move.rest trying.1.call move.block (suc trying.1.left) trying.1.at
-    (and_parts (not (timed thread frame.past)) (tries_in system trying.1.call move.block) trying.1.tries).1 move.closed_is move.at refl sound.run)
+    trying.1.tries move.closed_is move.at refl sound.run)
 move_run system told timed is order before next sound (abandons thread frame move) =
     let loops = sound.placed thread frame (At (WaitUntil move.block move.condition ∷ move.rest)) move.at in
     let tries : tries_in system loops.1.call move.block ≡ true =

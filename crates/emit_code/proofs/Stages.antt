@@ -1,10 +1,10 @@
 -- The block that a thread is at in its call, and the stages of the code.
-use Rattle.std.proofs.Common.{◌≡◌, ◌==◌, ℕ, zero, suc, ◌+◌, ◌-◌, ◌<◌, ◌≤◌, ◌⊎◌, Bool, true, false, cond, not, ◌&&◌, List, [], ◌∷◌, ◌++◌, Option, Some, None, refl, sym, ap, subst, ◌∙◌, arith, inl, inr}
+use Rattle.std.proofs.Common.{◌≡◌, ◌==◌, ℕ, zero, suc, ◌+◌, ◌-◌, ◌<◌, ◌≤◌, ◌⊎◌, Bool, true, false, cond, not, ◌&&◌, ◌||◌, List, [], ◌∷◌, ◌++◌, Option, Some, None, refl, sym, ap, subst, ◌∙◌, arith, inl, inr}
 use Rattle.std.specs.Prelude.{All, slice_get}
 use Rattle.std.specs.List.{list_any}
 use Rattle.std.specs.Option.{option_map_or}
 use Rattle.std.proofs.lemmas.Option.{same_Some, slice_get_within}
-use Rattle.std.proofs.lemmas.Bool.{true≢false, and_parts, and_from, and_right, or_cases, or_left, or_right, eq-eqb, ne_eqb}
+use Rattle.std.proofs.lemmas.Bool.{true≢false, and_parts, and_from, and_right, or_cases, or_left, or_right, eq-eqb, ne_eqb, eqb-false, cases_Bool}
 use Rattle.std.proofs.lemmas.List.Elements.{All-cons, All-head, All-tail}
 use Rattle.logic_linear.specs.declared.formula.Formula.{Formula}
 use Rattle.logic_linear.specs.declared.formula.Formula.TheOpen.{Formula-F, Row, Flag, All as Every, Any as Some_of}
@@ -25,8 +25,8 @@ use Rattle.machine_events.specs.declared.plan.Note.{Note}
 use Rattle.machine_events.specs.Configurations.{System, guard_of, block_condition, waited_condition}
 use Rattle.machine_events.specs.Configurations.Phase.{Inside, Notifying}
 use Rattle.machine_events.specs.Pending.{IsSystem}
-use Rattle.machine_events.proofs.Facing.{Faces, faces, guard_is, own_condition}
-use Rattle.emit_code.specs.Code.{Op, is_always_step, is_always, is_waited_on, telling_code, test_code, running_code, blocks_code, code_with}
+use Rattle.machine_events.proofs.Facing.{Faces, faces, guard_is, has_condition, own_guard}
+use Rattle.emit_code.specs.Code.{Op, is_always_step, is_always, is_waited_on, is_guarded, telling_code, test_code, running_code, blocks_code, code_with}
 use Rattle.emit_code.specs.Code.Op.{Lock, WaitUntil, ElseRefuse, Run, Notify, Unlock, Release}
 use Rattle.emit_code.specs.Executions.{Program, Moment, Frame, is_open, program_with, at_once, telling_then, recovers, tries_there, is_called_for, untested, called_for}
 use Rattle.emit_code.specs.Executions.Position.{At}
@@ -111,22 +111,25 @@ open_is_guard system told timed state thread frame call block left at =
 
 pub record Faced (system : System) (thread : ℕ) (frame : Frame) (call : Call) (number : ℕ) : Type 0 where
   pub block : Block
-  pub which : Condition
-  pub faced : Faces system thread (place_by system thread frame (Some number)) call block which
+  pub faced : Faces system thread (place_by system thread frame (Some number)) call block
   pub there : slice_get system.monitor.blocks number ≡ Some block
+  pub asserted : block.condition ≡ 0 → tries_in system call number ≡ true
 
 pub faced_at : (system : System) (thread : ℕ) (frame : Frame) (call : Call) (block left : ℕ) → IsSystem system → IsAt system thread frame.past call block left
     → FitsPlace system.monitor system.clients thread (place_by system thread frame (Some block)) → Faced system thread frame call block
 faced_at system thread frame call block left is at fits =
     let place = place_by system thread frame (Some block) in
     let found = faces system thread place is.rule is.scripts fits (slice_get_within (calls_of system.clients thread) frame.past call at.call_is) in
-    let same : found.0 ≡ call = same_Some found.0 call (sym found.3.call_is ∙ at.call_is) in
-    let faced : Faces system thread place call found.1 found.2 = subst (λ (one : Call). Faces system thread place one found.1 found.2) same found.3 in
+    let same : found.0 ≡ call = same_Some found.0 call (sym found.2.call_is ∙ at.call_is) in
+    let faced : Faces system thread place call found.1 = subst (λ (one : Call). Faces system thread place one found.1) same found.2 in
     record {
       block = found.1;
-      which = found.2;
       faced = faced;
       there = ap (slice_get system.monitor.blocks) (sym (block_is system thread frame call block left at)) ∙ faced.block_is;
+      asserted = λ none. elim (cases_Bool (tries_at system.clients thread place)) [
+        | inl tries ↦ sym (tries_is system thread frame call block left at) ∙ tries
+        | inr patient ↦ absurd (omega (arith, none, has_condition system thread place call found.1 is.rule is.scripts fits faced patient))
+      ];
     }
 
 -- ---- a guard that is `true`
@@ -149,19 +152,45 @@ pub not_false : (b : Bool) → not b ≡ false → b ≡ true
 not_false true is = refl
 not_false false is = absurd (true≢false is)
 
--- the guard of a condition on which nobody waits is true
-pub open_unwaited : (system : System) (told : ℕ → List Op) (timed : ℕ → ℕ → Bool) (state : List Value) (thread : ℕ) (frame : Frame) (call : Call) (block left : ℕ) → IsAt system thread frame.past call block left
-    → Faced system thread frame call block → is_waited_on system.monitor (block_condition system.monitor block) ≡ false → is_open (program_with system told timed) state thread frame block ≡ true
-open_unwaited system told timed state thread frame call block left at here unwaited =
+pub guarded_is : (system : System) (thread : ℕ) (frame : Frame) (call : Call) (number : ℕ) (here : Faced system thread frame call number)
+    → is_guarded system.monitor number ≡ not (is_always here.block.guard)
+guarded_is system thread frame call number here = ap (λ (one : Option Block). option_map_or (λ which. not (is_always which.guard)) one false) here.there
+
+pub numbered_is : (system : System) (thread : ℕ) (frame : Frame) (call : Call) (number : ℕ) (here : Faced system thread frame call number)
+    → block_condition system.monitor number ≡ here.block.condition
+numbered_is system thread frame call number here = ap (λ (one : Option Block). option_map_or (λ block. block.condition) one 0) here.there
+
+-- a guard that is not tested is true
+pub open_untested : (system : System) (told : ℕ → List Op) (timed : ℕ → ℕ → Bool) (state : List Value) (thread : ℕ) (frame : Frame) (call : Call) (block left : ℕ) → IsAt system thread frame.past call block left
+    → Faced system thread frame call block → is_guarded system.monitor block ≡ false → is_open (program_with system told timed) state thread frame block ≡ true
+open_untested system told timed state thread frame call block left at here untested =
     let place = place_by system thread frame (Some block) in
-    let which = here.which in
-    let condition : block_condition system.monitor block ≡ here.block.condition =
-    ap (block_condition system.monitor) (sym (block_is system thread frame call block left at)) ∙ own_condition system thread place call here.block which here.faced in
-    let there : is_waited_on system.monitor (block_condition system.monitor block) ≡ not (is_always which.guard) =
-    ap (is_waited_on system.monitor) condition ∙ ap (λ (one : Option Condition). option_map_or (λ which. not (is_always which.guard)) one false) here.faced.which_is.there in
-    let always = not_false (is_always which.guard) (sym there ∙ unwaited) in
-    open_is_guard system told timed state thread frame call block left at ∙ guard_is system state thread place call here.block which here.faced
-    ∙ ap (truth_of (valuation state (inputs_at call place))) (sym here.faced.same_guard) ∙ holds_always which.guard always (valuation state (inputs_at call place))
+    let always = not_false (is_always here.block.guard) (sym (guarded_is system thread frame call block here) ∙ untested) in
+    open_is_guard system told timed state thread frame call block left at ∙ guard_is system state thread place call here.block here.faced
+    ∙ holds_always here.block.guard always (valuation state (inputs_at call place))
+
+-- a block that is tested and doesn't assert has a condition on which someone may wait
+pub tested_waited : (system : System) (thread : ℕ) (frame : Frame) (call : Call) (number : ℕ) → IsSystem system → (here : Faced system thread frame call number)
+    → is_guarded system.monitor number ≡ true → block_condition system.monitor number == 0 ≡ false
+    → is_waited_on system.monitor (block_condition system.monitor number) ≡ true
+tested_waited system thread frame call number is here tested numbered =
+    let condition = block_condition system.monitor number in
+    let same : condition ≡ here.block.condition = numbered_is system thread frame call number here in
+    let own = own_guard system.monitor number here.block is.rule here.there (subst (λ (one : ℕ). 1 ≤ one) same (some condition (eqb-false condition 0 numbered))) in
+    and_from (not (condition == 0)) (option_map_or (λ which. not (is_always which.guard)) (slice_get system.monitor.conditions (condition - 1)) false)
+    (ap not numbered)
+    (ap (λ (one : ℕ). option_map_or (λ which. not (is_always which.guard)) (slice_get system.monitor.conditions (one - 1)) false) same
+    ∙ ap (λ (one : Option Condition). option_map_or (λ which. not (is_always which.guard)) one false) own.1.is.there
+    ∙ ap (λ (one : Formula). not (is_always one)) own.1.guard ∙ sym (guarded_is system thread frame call number here) ∙ tested)
+  where
+    some : (number : ℕ) → (number ≡ 0 → ⊥) → 1 ≤ number
+    some zero differs = absurd (differs refl)
+    some (suc number) differs = omega arith
+
+-- and where someone may wait there is a condition
+pub waited_numbered : (monitor : MonitorParts) (condition : ℕ) → is_waited_on monitor condition ≡ true → 1 ≤ condition
+waited_numbered monitor zero waited = absurd (true≢false (sym waited))
+waited_numbered monitor (suc condition) waited = omega arith
 
 -- ---- where blocks begin and end
 
@@ -204,8 +233,8 @@ end_later system thread past call block left at = omega (arith, at.begins, at.en
 
 -- ---- the block that code runs next
 
-next_passed : (system : System) (told : ℕ → List Op) (block left : ℕ) (tries waited : Bool)
-    → next_block (cond waited (cond tries (ElseRefuse block ∷ passed_code system told block left) (WaitUntil block (block_condition system.monitor block) ∷ passed_code system told block left))
+next_passed : (system : System) (told : ℕ → List Op) (block left : ℕ) (tries tested : Bool)
+    → next_block (cond tested (cond tries (ElseRefuse block ∷ passed_code system told block left) (WaitUntil block (block_condition system.monitor block) ∷ passed_code system told block left))
     (passed_code system told block left)) ≡ Some block
 next_passed system told block left true true = refl
 next_passed system told block left false true = refl
@@ -213,10 +242,10 @@ next_passed system told block left true false = refl
 next_passed system told block left false false = refl
 
 pub next_locked : (system : System) (told : ℕ → List Op) (tries : Bool) (block left : ℕ) → next_block (locked_code system told tries block left) ≡ Some block
-next_locked system told tries block left = next_passed system told block left tries (is_waited_on system.monitor (block_condition system.monitor block))
+next_locked system told tries block left = next_passed system told block left (tries || block_condition system.monitor block == 0) (is_guarded system.monitor block)
 
-inside_passed : (system : System) (told : ℕ → List Op) (block left : ℕ) (tries waited : Bool)
-    → phase_at (At (cond waited (cond tries (ElseRefuse block ∷ passed_code system told block left) (WaitUntil block (block_condition system.monitor block) ∷ passed_code system told block left))
+inside_passed : (system : System) (told : ℕ → List Op) (block left : ℕ) (tries tested : Bool)
+    → phase_at (At (cond tested (cond tries (ElseRefuse block ∷ passed_code system told block left) (WaitUntil block (block_condition system.monitor block) ∷ passed_code system told block left))
     (passed_code system told block left))) ≡ Inside
 inside_passed system told block left true true = refl
 inside_passed system told block left false true = refl
@@ -224,7 +253,7 @@ inside_passed system told block left true false = refl
 inside_passed system told block left false false = refl
 
 pub inside_locked : (system : System) (told : ℕ → List Op) (tries : Bool) (block left : ℕ) → phase_at (At (locked_code system told tries block left)) ≡ Inside
-inside_locked system told tries block left = inside_passed system told block left tries (is_waited_on system.monitor (block_condition system.monitor block))
+inside_locked system told tries block left = inside_passed system told block left (tries || block_condition system.monitor block == 0) (is_guarded system.monitor block)
 
 -- ---- what comes after a body, until the mutex is locked again
 
@@ -415,8 +444,8 @@ then_next : (notes : List Note) (rest : List Op) → next_block (telling_then no
 then_next [] rest = refl
 then_next (note ∷ notes) rest = then_next notes rest
 
-next_test : (monitor : MonitorParts) (tries waited : Bool) (block : ℕ) (otherwise : List Note) (rest : List Op)
-    → next_block (cond waited (cond tries (ElseRefuse block ∷ Run block otherwise ∷ rest) (WaitUntil block (block_condition monitor block) ∷ Run block otherwise ∷ rest)) (Run block otherwise ∷ rest)) ≡ Some block
+next_test : (monitor : MonitorParts) (tries tested : Bool) (block : ℕ) (otherwise : List Note) (rest : List Op)
+    → next_block (cond tested (cond tries (ElseRefuse block ∷ Run block otherwise ∷ rest) (WaitUntil block (block_condition monitor block) ∷ Run block otherwise ∷ rest)) (Run block otherwise ∷ rest)) ≡ Some block
 next_test monitor true true block otherwise rest = refl
 next_test monitor false true block otherwise rest = refl
 next_test monitor true false block otherwise rest = refl
@@ -426,7 +455,7 @@ next_test monitor false false block otherwise rest = refl
 pub again_next : (program : Program) (thread : ℕ) (frame : Frame) (block : ℕ) (otherwise : List Note) (rest : List Op) → next_block (recovers program thread frame block otherwise rest) ≡ Some block
 again_next program thread frame block otherwise rest =
     then_next otherwise (Lock ∷ test_code program.monitor (at_once program thread frame (tries_there program thread frame block)) block (Run block otherwise ∷ rest))
-    ∙ next_test program.monitor (at_once program thread frame (tries_there program thread frame block)) (is_waited_on program.monitor (block_condition program.monitor block)) block otherwise rest
+    ∙ next_test program.monitor (at_once program thread frame (tries_there program thread frame block) || block_condition program.monitor block == 0) (is_guarded program.monitor block) block otherwise rest
 
 pub again_locked : (program : Program) (thread : ℕ) (frame : Frame) (block : ℕ) (otherwise : List Note) (rest : List Op) → now_locked (recovers program thread frame block otherwise rest) ≡ true
 again_locked program thread frame block otherwise rest = then_locked otherwise _ refl

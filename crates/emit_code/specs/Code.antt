@@ -1,6 +1,6 @@
 -- The code of a monitor under a plan: what a thread does in a call, one operation after the other.
-use Rattle.std.specs.Prelude.{ℕ, zero, suc, ◌+◌, ◌-◌, Bool, true, false, not, List, [], ◌∷◌, ◌++◌}
-use Rattle.std.specs.Prelude.{slice_get, if◌then◌else◌}
+use Rattle.std.specs.Prelude.{◌==◌, ℕ, zero, suc, ◌+◌, ◌-◌, Bool, true, false, not, ◌&&◌, ◌||◌, List}
+use Rattle.std.specs.Prelude.{[], ◌∷◌, ◌++◌, slice_get, if◌then◌else◌}
 use Rattle.std.specs.Option.{option_map_or}
 use Rattle.logic_linear.specs.declared.formula.Formula.{Formula}
 use Rattle.logic_linear.specs.declared.formula.Formula.TheOpen.{Formula-F, Row, Flag, All as Every}
@@ -48,9 +48,10 @@ pub data Op : Type 0 where
   -- whose `return` is the move `Abandons`, and it waits by
   -- `inner = wait_for(&self.can_c, inner, left);`
   WaitUntil : (block condition : ℕ) → Op
-  -- `if !inner.state.can_m() { return Err(Refused); }`: the guard of a block, tested as above; the
-  -- error is `Failed::Refused` where a body of the method may overflow. The `return` drops the
-  -- guard of the mutex: this is the `Unlock` that the move `Refuses` leaves to do
+  -- `if !inner.state.can_m() { return Err(Refused); }`: the guard of a block, tested as above; that
+  -- of a block without a condition by its own `can_m`, whatever it reads. The error is
+  -- `Failed::Refused` where a body of the method may overflow. The `return` drops the guard of the
+  -- mutex: this is the `Unlock` that the move `Refuses` leaves to do
   ElseRefuse : (block : ℕ) → Op
   -- the body of a block, and the notes that are made where it overflows:
   -- `let answer = inner.state.run_m();` where it can't overflow, and so none of them is made;
@@ -95,11 +96,16 @@ is_always_step (Some_of parts) = false
 abbrev pub is_always : Formula → Bool
 is_always = fold-Formula Bool is_always_step
 
--- the condition of this number has such a guard
+-- there is a condition of this number, and it has no such guard
 abbrev pub is_waited_on : MonitorParts → ℕ → Bool
 is_waited_on monitor condition =
-    option_map_or (λ which. not (is_always which.guard))
+    not (condition == 0) && option_map_or (λ which. not (is_always which.guard))
     (slice_get monitor.conditions (condition - 1)) false
+
+-- the guard of the block of this number is no such guard
+abbrev pub is_guarded : MonitorParts → ℕ → Bool
+is_guarded monitor block =
+    option_map_or (λ which. not (is_always which.guard)) (slice_get monitor.blocks block) false
 
 -- ---- the code of a block, from its end
 
@@ -119,11 +125,11 @@ overflow_notes monitor block =
     then signal_on (block_condition monitor block) ∷ [] else []
 
 -- A block's guard is tested before the rest, if it is not `true`: the call waits for it, or, where
--- it tries, is refused.
+-- it tries, is refused. A block without a condition asserts: nobody ever waits for it.
 abbrev pub test_code : MonitorParts → Bool → ℕ → List Op → List Op
 test_code monitor tries block rest =
-    if is_waited_on monitor (block_condition monitor block)
-    then (if tries then ElseRefuse block ∷ rest
+    if is_guarded monitor block
+    then (if tries || block_condition monitor block == 0 then ElseRefuse block ∷ rest
     else WaitUntil block (block_condition monitor block) ∷ rest)
     else rest
 
@@ -162,3 +168,11 @@ late_order plan block = Release (notes_at plan block) ∷ []
 -- the code of a method under a plan
 abbrev pub code_of : MonitorParts → Plan → ℕ → Bool → List Op
 code_of monitor plan = code_with monitor (late_order plan)
+
+-- what a call of a method does that asserts, whose only block this is: it is refused, or runs, and
+-- nobody ever waits for it
+abbrev pub asserting_code : MonitorParts → Plan → ℕ → List Op
+asserting_code monitor plan block =
+    Lock ∷ (if is_guarded monitor block
+    then ElseRefuse block ∷ Run block [] ∷ Release (notes_at plan block) ∷ []
+    else Run block [] ∷ Release (notes_at plan block) ∷ [])

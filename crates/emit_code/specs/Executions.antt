@@ -107,7 +107,8 @@ call_of program thread frame = slice_get (calls_of program.clients thread) frame
 
 -- ---- a call begins and ends
 
--- a call that tries is refused at once where its guard is false, unless it has a time
+-- a call that tries is refused at once where its guard is false, unless it has a time; one of a
+-- method that asserts is so by its code, with a time or without (`test_code`)
 abbrev pub at_once : Program → ℕ → Frame → Bool → Bool
 at_once program thread frame tries = not (program.timed thread frame.past) && tries
 
@@ -258,7 +259,7 @@ abbrev pub has_time : Program → ℕ → Frame → ℕ → Bool
 has_time program thread frame block =
     program.timed thread frame.past && tries_there program thread frame block
 
--- the guard is false in a call that tries and has no time: it is refused
+-- the guard is false in a call that tries and has no time, or whose method asserts: it is refused
 pub record Refuses (program : Program) (thread : ℕ) (frame : Frame) (before next : Moment) : Type 0
   where
     pub block : ℕ

@@ -3,7 +3,8 @@ use Rattle.std.specs.Prelude.{◌≡◌, ◌≢◌, ◌⊎◌, ℕ, ◌+◌, Boo
 use Rattle.std.specs.Prelude.{All, None, Some, slice_get}
 use Rattle.lang_monitor.specs.declared.monitor.Condition.{Condition}
 use Rattle.lang_monitor.specs.Inputs.{reads_inputs}
-use Rattle.lang_monitor.specs.MonitorParts.{MonitorParts, IsMonitor, count_in}
+use Rattle.lang_monitor.specs.MonitorParts.{MonitorParts, IsMonitor, asserts_in, first_in}
+use Rattle.lang_monitor.specs.MonitorParts.{count_in}
 use Rattle.machine_implicit.specs.declared.commit.Commit.{Commit}
 use Rattle.machine_implicit.specs.declared.script.Call.{Call}
 use Rattle.machine_implicit.specs.declared.script.Client.{Client}
@@ -17,7 +18,7 @@ use Rattle.machine_events.specs.Configurations.{System}
 use Rattle.machine_events.specs.Pending.{IsSystem}
 use Rattle.machine_events.specs.Counts.{IsLawfulByCounting}
 use Rattle.machine_events.specs.Laws.{HasLawfulPlan, HasCountingPlan}
-use Rattle.emit_code.specs.Code.{Op, late_order}
+use Rattle.emit_code.specs.Code.{Op, late_order, code_of, asserting_code}
 use Rattle.emit_code.specs.Code.Op.{Lock, WaitUntil, ElseRefuse, Run, Notify, Unlock, Release}
 use Rattle.emit_code.specs.Executions.{Program, program_with, Position, Frame, Moment, IsThread}
 use Rattle.emit_code.specs.Executions.{start, call_of, is_open, Abandons, Executes, IsStill}
@@ -308,6 +309,17 @@ LateLeftOutIsMade =
     (system : System) (told : ℕ → List Op) (timed : ℕ → ℕ → Bool) (last : Moment)
     → Leads (program_with system told timed) last
     → LeftOutIsMade (program_with system told timed) last
+
+-- ---- methods that assert
+
+-- a call of a method that asserts is refused or runs, whether it is one that tries or has a time:
+-- its code waits nowhere
+abbrev pub AssertingCodeWaitsNowhere : Type 0
+AssertingCodeWaitsNowhere =
+    (monitor : MonitorParts) (plan : Plan) (method : ℕ) (tries : Bool) → IsMonitor monitor
+    → asserts_in (slice_get monitor.methods method) ≡ true
+    → code_of monitor plan method tries
+    ≡ asserting_code monitor plan (first_in (slice_get monitor.methods method))
 
 -- ---- plans without the notes that nobody hears
 

@@ -12,7 +12,7 @@ ghost use Rattle.emit_code.specs.Laws.{CountedSleepersAreSeenTo, CountedStillIsT
 ghost use Rattle.emit_code.specs.Laws.{CountedStillEndsTheRun, LivePlansCount};
 ghost use Rattle.emit_code.specs.Laws.{CountedCodeLosesNone};
 ghost use Rattle.emit_code.specs.Laws.{LivePlansFit, LivePlansAreLawful, PrintedCodeLosesNone};
-ghost use Rattle.emit_code.specs.Laws.{LateNobodyIsOwed};
+ghost use Rattle.emit_code.specs.Laws.{LateNobodyIsOwed, AssertingCodeWaitsNowhere};
 
 /// Whatever the interleaving of any threads that call the methods of a monitor, any number of
 /// times, by code that makes the notes of each block before or after it gives the mutex back, or
@@ -63,6 +63,12 @@ pub fn functions_run_once()
 /// of the calls that blocks completed leave of them, in the order of what ran.
 pub fn data_follow_the_run<D>()
     ensures { LateDataFollowTheRun D }
+{}
+
+/// The code of a method that asserts is one, of calls that try and of those that don't, and waits
+/// nowhere: so nobody ever sleeps in a call of it.
+pub fn asserting_code_waits_nowhere()
+    ensures { AssertingCodeWaitsNowhere }
 {}
 
 /// The plan without the notes that nobody hears fits its monitor where the plan does, and is lawful

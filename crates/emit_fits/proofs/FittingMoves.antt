@@ -52,7 +52,7 @@ never_told system told timed set order starts pass thread frame before next run 
         is = body.here.there;
         fits = (run_fits system.monitor system.clients before.ran _ set.is.rule set.is.scripts sound.run).state;
         inputs_fit = faced.fits_inputs;
-        guard = sym (guard_is system before.state thread place body.call body.here.block body.here.which faced) ∙ body.open_is;
+        guard = sym (guard_is system before.state thread place body.call body.here.block faced) ∙ body.open_is;
         kept_hold = covered.invariant;
       };
       state_fits = short.state;

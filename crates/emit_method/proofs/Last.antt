@@ -1,12 +1,12 @@
 -- The function that calls are given is printed with the last body of their code.
-use Rattle.std.proofs.Common.{◌≡◌, ◌==◌, ◌≤◌, ℕ, zero, suc, ◌+◌, ◌-◌, Bool, true, false, cond, ◌&&◌, List, [], ◌∷◌, ◌++◌, refl, sym, ap, subst, ◌∙◌, arith}
+use Rattle.std.proofs.Common.{◌≡◌, ◌==◌, ◌≤◌, ℕ, zero, suc, ◌+◌, ◌-◌, Bool, true, false, cond, ◌&&◌, ◌||◌, List, [], ◌∷◌, ◌++◌, refl, sym, ap, subst, ◌∙◌, arith}
 use Rattle.std.specs.Prelude.{⊤, slice_get}
 use Rattle.std.proofs.lemmas.Bool.{eq-eqb, ne_eqb}
 use Rattle.lang_monitor.specs.MonitorParts.{MonitorParts, first_in, count_in}
 use Rattle.machine_events.specs.declared.plan.Note.{Note}
 use Rattle.machine_events.specs.declared.plan.Plan.{Plan}
 use Rattle.machine_events.specs.Configurations.{block_condition}
-use Rattle.emit_code.specs.Code.{Op, blocks_code, is_last_run, is_waited_on, late_order, running_code}
+use Rattle.emit_code.specs.Code.{Op, blocks_code, is_guarded, is_last_run, late_order, running_code}
 use Rattle.emit_code.specs.Code.Op.{Lock, WaitUntil, ElseRefuse, Run, Release, Notify, Unlock}
 use Rattle.emit_statements.specs.Ways.{tries}
 use Rattle.emit_method.specs.Laws.{FunctionsRunLast}
@@ -37,14 +37,15 @@ module _ (monitor : MonitorParts) (plan : Plan) where
 
   -- a block has a body
   runs_more : (block left : ℕ) → is_last_run (later block (suc left)) ≡ false
-  runs_more block left = by (is_waited_on monitor (block_condition monitor block))
+  runs_more block left = by (is_guarded monitor block) (block_condition monitor block == 0)
     where
       passed : List Op
       passed = running_code monitor (late_order plan) block (later (block + 1) left)
 
-      by : (waited : Bool) → is_last_run (cond waited (WaitUntil block (block_condition monitor block) ∷ passed) passed) ≡ false
-      by true = refl
-      by false = refl
+      by : (guarded asserts : Bool) → is_last_run (cond guarded (cond asserts (ElseRefuse block ∷ passed) (WaitUntil block (block_condition monitor block) ∷ passed)) passed) ≡ false
+      by true true = refl
+      by true false = refl
+      by false asserts = refl
 
   last_is : (first count block left : ℕ) → first ≤ block → block + suc left ≡ first + count → ((block + 1 - first) == count) ≡ is_last_run (later (block + 1) left)
   last_is first count block zero begins ends = eq-eqb (block + 1 - first) count (omega (arith, begins, ends))
@@ -58,17 +59,17 @@ module _ (monitor : MonitorParts) (plan : Plan) where
   each_ties works first count try block (suc left) begins ends =
       let begun : first ≤ block + 1 = omega (arith, begins) in
       let ended : (block + 1) + left ≡ first + count = omega (arith, ends) in
-      by (is_waited_on monitor (block_condition monitor block)) try
+      by (is_guarded monitor block) (try || block_condition monitor block == 0)
       (ap (λ (is : Bool). works && is) (last_is first count block left begins ends), each_ties works first count false (block + 1) left begun ended)
     where
       passed : List Op
       passed = running_code monitor (late_order plan) block (later (block + 1) left)
 
-      by : (waited once : Bool) → Each (Ties works first count) passed
-          → Each (Ties works first count) (cond waited (cond once (ElseRefuse block ∷ passed) (WaitUntil block (block_condition monitor block) ∷ passed)) passed)
+      by : (guarded refuses : Bool) → Each (Ties works first count) passed
+          → Each (Ties works first count) (cond guarded (cond refuses (ElseRefuse block ∷ passed) (WaitUntil block (block_condition monitor block) ∷ passed)) passed)
       by true true each = each
       by true false each = each
-      by false once each = each
+      by false refuses each = each
 
 pub run_last : FunctionsRunLast
 run_last source number method way works many before rest block otherwise is =

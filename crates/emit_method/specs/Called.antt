@@ -8,9 +8,11 @@ use Rattle.emit_statements.specs.declared.ways.Way.{Way}
 use Rattle.emit_statements.specs.declared.ways.Way.TheVariants as ways
 use Rattle.emit_statements.specs.Statements.{MethodParts}
 
--- what a method that is given no function is called: `put`, `try_put`, `put_until` or `put_for`
+-- what a method that is given no function is called: `put`, as of calls that wait or assert,
+-- `try_put`, `put_until` or `put_for`
 abbrev pub plain_name : MonitorTree → List ℕ → Way → List ℕ
 plain_name tree name ways.Waits = member_name tree styles.Snake name
+plain_name tree name ways.Asserts = member_name tree styles.Snake name
 plain_name tree name ways.Tries = try_name tree name
 plain_name tree name ways.Until = ended_name tree endings.Until name
 plain_name tree name ways.For = ended_name tree endings.For name
@@ -18,6 +20,7 @@ plain_name tree name ways.For = ended_name tree endings.For name
 -- and one that is
 abbrev pub work_name : MonitorTree → List ℕ → Way → List ℕ
 work_name tree name ways.Waits = with_name tree name
+work_name tree name ways.Asserts = with_name tree name
 work_name tree name ways.Tries = try_with_name tree name
 work_name tree name ways.Until = ended_name tree endings.UntilWith name
 work_name tree name ways.For = ended_name tree endings.ForWith name

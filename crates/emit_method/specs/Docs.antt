@@ -14,7 +14,7 @@ use Rattle.emit_names.specs.declared.style.Style.TheVariants as styles
 use Rattle.emit_names.specs.Names.{member_name}
 use Rattle.emit_statements.specs.declared.ways.Way.{Way}
 use Rattle.emit_statements.specs.declared.ways.Way.TheVariants as ways
-use Rattle.emit_statements.specs.Ways.{may_refuse}
+use Rattle.emit_statements.specs.Ways.{asserts, may_refuse}
 use Rattle.emit_statements.specs.Statements.{MethodParts}
 use Rattle.emit_method.specs.Called.{plain_called}
 
@@ -79,6 +79,7 @@ first_guard method =
 -- before that guard
 abbrev pub unlike_text : Way → List ℕ
 unlike_text ways.Waits = []
+unlike_text ways.Asserts = []
 unlike_text ways.Tries = codes "), but does not wait until `"
 unlike_text ways.Until = codes "), but waits for `"
 unlike_text ways.For = codes "), but waits for `"
@@ -86,6 +87,7 @@ unlike_text ways.For = codes "), but waits for `"
 -- and after it
 abbrev pub longest_text : Way → List ℕ
 longest_text ways.Waits = []
+longest_text ways.Asserts = []
 longest_text ways.Tries = codes "`.\n"
 longest_text ways.Until = codes "` no longer than until `end`.\n"
 longest_text ways.For = codes "` no longer than `time`.\n"
@@ -105,6 +107,7 @@ refused_by false = codes "    /// [`Refused`] where "
 -- and when it may be
 abbrev pub when_text : Way → List ℕ
 when_text ways.Waits = []
+when_text ways.Asserts = codes "`"
 when_text ways.Tries = codes "`"
 when_text ways.Until = codes "its time is over and `"
 when_text ways.For = codes "its time is over and `"
@@ -123,9 +126,17 @@ refusal_docs it =
     ++ codes "` is false. Then nothing changes.\n"
     ++ other_error it.fails (length it.method.blocks)
 
+-- what a method does that asserts
+abbrev pub asserting_text : MethodParts → List ℕ
+asserting_text it = own_comments it ++ going_text 0
+
+-- what a method does for calls that may be refused
+abbrev pub doing_text : MethodParts → List ℕ
+doing_text it = if asserts it.way then asserting_text it else likeness_text it
+
 -- what is said of a method for such calls
 abbrev pub trying_docs : MethodParts → List ℕ
-trying_docs it = likeness_text it ++ refusal_docs it
+trying_docs it = doing_text it ++ refusal_docs it
 
 -- ---- calls that are given a function
 

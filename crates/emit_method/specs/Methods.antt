@@ -1,5 +1,5 @@
 -- The methods of a module.
-use Rattle.std.specs.Prelude.{ℕ, ◌+◌, ◌-◌, Bool, true, false, ◌&&◌, List, [], ◌++◌, codes}
+use Rattle.std.specs.Prelude.{ℕ, ◌+◌, ◌-◌, Bool, true, false, ◌&&◌, ◌||◌, List, [], ◌++◌, codes}
 use Rattle.std.specs.Prelude.{Option, Some, None, slice_get, if◌then◌else◌}
 use Rattle.std.specs.List.{flat_map}
 use Rattle.lang_base.specs.declared.kind.Kind.{Kind}
@@ -9,9 +9,9 @@ use Rattle.lang_tree.specs.declared.tree.MethodTree.{MethodTree}
 use Rattle.lang_tree.specs.declared.tree.MonitorTree.{MonitorTree}
 use Rattle.lang_tree.specs.Names.{declared_name}
 use Rattle.lang_printer.specs.Canonical.{literal_text, truth_text}
-use Rattle.lang_monitor.specs.MonitorParts.{MonitorParts, first_in, count_in}
+use Rattle.lang_monitor.specs.MonitorParts.{MonitorParts, asserts_in, first_in, count_in}
 use Rattle.machine_events.specs.Configurations.{block_condition}
-use Rattle.emit_code.specs.Code.{Op, is_waited_on, code_of}
+use Rattle.emit_code.specs.Code.{Op, is_guarded, is_waited_on, code_of}
 use Rattle.emit_names.specs.Names.{are_lasting_free, are_lasting_with_free, is_try_free}
 use Rattle.emit_names.specs.Names.{is_try_with_free, is_with_free, input_name}
 use Rattle.emit_bodies.specs.Blocks.{kind_declared, kind_text, parameter_text}
@@ -85,6 +85,7 @@ function_text it =
 -- its time
 abbrev pub time_text : Way → List ℕ
 time_text ways.Waits = []
+time_text ways.Asserts = []
 time_text ways.Tries = []
 time_text ways.Until = codes ", end: Instant"
 time_text ways.For = codes ", time: Duration"
@@ -130,6 +131,7 @@ lasting_text it =
 -- calls of this way wait for a time
 abbrev pub lasts : Way → Bool
 lasts ways.Waits = false
+lasts ways.Asserts = false
 lasts ways.Tries = false
 lasts ways.Until = false
 lasts ways.For = true
@@ -159,6 +161,7 @@ has_times source number method =
 -- nothing else is called as the method that is given a function
 abbrev pub has_with : MonitorTree → MethodTree → Way → Bool
 has_with tree method ways.Waits = is_with_free tree method.name
+has_with tree method ways.Asserts = is_with_free tree method.name
 has_with tree method ways.Tries = is_try_with_free tree method.name
 has_with tree method ways.Until = are_lasting_with_free tree method.name
 has_with tree method ways.For = are_lasting_with_free tree method.name
@@ -188,8 +191,25 @@ abbrev pub times_text : SourceParts → ℕ → MethodTree → List ℕ
 times_text source number method =
     if has_times source number method then timed_texts source number method else []
 
--- the methods that stand for one method of the monitor
+-- the method asserts a guard that is not `true`
+abbrev pub has_assertion : MonitorParts → ℕ → Bool
+has_assertion monitor number =
+    let held = slice_get monitor.methods number in
+    asserts_in held && is_guarded monitor (first_in held)
+
+-- how the calls wait that bear the method's own name
+abbrev pub own_way : MonitorParts → ℕ → Way
+own_way monitor number = if has_assertion monitor number then ways.Asserts else ways.Waits
+
+-- some calls of the method are refused
+abbrev pub refuses : SourceParts → ℕ → MethodTree → Bool
+refuses source number method =
+    has_assertion source.monitor number || has_try source number method
+
+-- The methods that stand for one method of the monitor. No condition is waited for by one that
+-- asserts, so it has its own name alone.
 abbrev pub methods_text : SourceParts → ℕ → MethodTree → List ℕ
 methods_text source number method =
-    both_text source number method ways.Waits ++ try_text source number method
+    both_text source number method (own_way source.monitor number)
+    ++ try_text source number method
     ++ times_text source number method

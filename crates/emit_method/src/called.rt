@@ -59,7 +59,7 @@ fn write_plain_name<S: Sink>(
     ensures { Wrote (S.seen out.old) (S.seen out.new) result (plain_name tree.now name.now way) }
 {
     match way {
-        Way::Waits => write_member(tree, Style::Snake, name, out),
+        Way::Waits | Way::Asserts => write_member(tree, Style::Snake, name, out),
         Way::Tries => write_try_name(tree, name, out),
         Way::Until => write_ended_name(tree, Ending::Until, name, out),
         Way::For => write_ended_name(tree, Ending::For, name, out),
@@ -75,7 +75,7 @@ fn write_work_name<S: Sink>(
     ensures { Wrote (S.seen out.old) (S.seen out.new) result (work_name tree.now name.now way) }
 {
     match way {
-        Way::Waits => write_ended_name(tree, Ending::With, name, out),
+        Way::Waits | Way::Asserts => write_ended_name(tree, Ending::With, name, out),
         Way::Tries => write_try_with_name(tree, name, out),
         Way::Until => write_ended_name(tree, Ending::UntilWith, name, out),
         Way::For => write_ended_name(tree, Ending::ForWith, name, out),

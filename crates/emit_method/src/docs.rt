@@ -6,7 +6,8 @@ ghost use Rattle.machine_events.specs.Configurations.{block_condition};
 ghost use Rattle.emit_code.specs.Code.{is_waited_on};
 ghost use Rattle.base_io.specs.Writing.{Wrote};
 ghost use Rattle.emit_statements.specs.Statements.{method_seen};
-ghost use Rattle.emit_method.specs.Docs.{ERRORS, docs_text, errors_text, first_guard, going_text};
+ghost use Rattle.emit_method.specs.Docs.{ERRORS, asserting_text, docs_text, doing_text};
+ghost use Rattle.emit_method.specs.Docs.{errors_text, first_guard, going_text};
 ghost use Rattle.emit_method.specs.Docs.{likeness_text, other_error, own_comments, refused_by};
 ghost use Rattle.emit_method.specs.Docs.{failure_docs, handed_text, own_docs, panics_text};
 ghost use Rattle.emit_method.specs.Docs.{refusal_docs, trying_docs, waiting_docs, waiting_text};
@@ -17,7 +18,7 @@ use crate::called::write_plain_called;
 use base_io::{Sink, SinkFailed, write_piece};
 use emit_comments::{line_of, write_leading};
 use emit_names::{Style, write_member};
-use emit_statements::{Calls, Way, condition_of, is_waited_on, may_refuse};
+use emit_statements::{Calls, Way, asserts, condition_of, is_waited_on, may_refuse};
 use lang_base::Kind;
 use lang_printer::write_around;
 use lang_tree::{BlockTree, MethodTree};
@@ -145,8 +146,25 @@ fn errors_bytes(fails: bool, blocks: usize) -> &'static [u8]
 fn write_trying<S: Sink>(it: &Calls, out: &mut S) -> Result<(), SinkFailed>
     ensures { Wrote (S.seen out.old) (S.seen out.new) result (trying_docs (method_seen it.now)) }
 {
-    write_likeness(it, out)?;
+    write_doing(it, out)?;
     write_refusals(it, out)
+}
+
+// What a method does for calls that may be refused.
+fn write_doing<S: Sink>(it: &Calls, out: &mut S) -> Result<(), SinkFailed>
+    ensures { Wrote (S.seen out.old) (S.seen out.new) result (doing_text (method_seen it.now)) }
+{
+    if asserts(it.way) {
+        return write_asserting(it, out);
+    }
+    write_likeness(it, out)
+}
+
+fn write_asserting<S: Sink>(it: &Calls, out: &mut S) -> Result<(), SinkFailed>
+    ensures { Wrote (S.seen out.old) (S.seen out.new) result (asserting_text (method_seen it.now)) }
+{
+    write_own_comments(it, out)?;
+    write_piece(going_bytes(0), out)
 }
 
 // When calls fail that may be refused.
@@ -177,7 +195,7 @@ fn unlike_bytes(way: Way) -> &'static [u8]
     ensures { result.now ≡ unlike_text way }
 {
     match way {
-        Way::Waits => b"",
+        Way::Waits | Way::Asserts => b"",
         Way::Tries => b"), but does not wait until `",
         Way::Until => b"), but waits for `",
         Way::For => b"), but waits for `",
@@ -188,7 +206,7 @@ fn longest_bytes(way: Way) -> &'static [u8]
     ensures { result.now ≡ longest_text way }
 {
     match way {
-        Way::Waits => b"",
+        Way::Waits | Way::Asserts => b"",
         Way::Tries => b"`.\n",
         Way::Until => b"` no longer than until `end`.\n",
         Way::For => b"` no longer than `time`.\n",
@@ -226,7 +244,7 @@ fn when_bytes(way: Way) -> &'static [u8]
 {
     match way {
         Way::Waits => b"",
-        Way::Tries => b"`",
+        Way::Asserts | Way::Tries => b"`",
         Way::Until => b"its time is over and `",
         Way::For => b"its time is over and `",
     }

@@ -20,4 +20,4 @@ mod methods;
 
 pub use declared::{write_start, write_typed_start};
 pub use laws::functions_run_last;
-pub use methods::{has_times, has_try, write_methods_of};
+pub use methods::{has_times, has_try, refuses, write_methods_of};

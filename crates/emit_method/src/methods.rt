@@ -1,6 +1,6 @@
 //! The methods of a monitor.
 
-ghost use Rattle.std.specs.Prelude.{◌≡◌, ◌++◌, codes, false, true};
+ghost use Rattle.std.specs.Prelude.{◌≡◌, ◌++◌, codes, false, if◌then◌else◌, slice_get, true};
 ghost use Rattle.std.specs.List.{flat_map};
 ghost use Rattle.emit_bodies.specs.Blocks.{parameter_text};
 ghost use Rattle.emit_bodies.specs.Bodies.{answer_text};
@@ -9,7 +9,9 @@ ghost use Rattle.emit_statements.specs.Sources.{seen};
 ghost use Rattle.emit_statements.specs.Statements.{method_seen};
 ghost use Rattle.emit_statements.specs.declared.ways.Way.TheVariants as ways;
 ghost use Rattle.emit_method.specs.Methods.{both_text, error_text, function_end, function_text};
-ghost use Rattle.emit_method.specs.Methods.{has_times, has_try, has_with, head_text, lasting_text};
+ghost use Rattle.lang_monitor.specs.MonitorParts.{asserts_in};
+ghost use Rattle.emit_method.specs.Methods.{has_assertion, has_times, has_try, has_with};
+ghost use Rattle.emit_method.specs.Methods.{head_text, lasting_text, own_way, refuses};
 ghost use Rattle.emit_method.specs.Methods.{lasts, local_line, method_answer, method_arrow};
 ghost use Rattle.emit_method.specs.Methods.{method_text, methods_text, own_arrow, parts_of};
 ghost use Rattle.emit_method.specs.Methods.{time_text, timed_texts, times_text, try_arrow};
@@ -27,16 +29,16 @@ use emit_names::{
     write_input,
 };
 use emit_statements::{
-    Calls, Source, Way, answer_of, condition_of, count_of, first_of, is_waited_on, may_refuse,
-    method_fails, write_blocks, write_end,
+    Calls, Source, Way, answer_of, condition_of, count_of, first_of, is_guarded, is_waited_on,
+    may_refuse, method_fails, write_blocks, write_end,
 };
 use lang_base::{Kind, Named};
 use lang_monitor::Monitor;
 use lang_tree::{Decl, MethodTree, MonitorTree};
 
-/// Writes a method of the monitor, by its number: for calls that wait, those that try, and those
-/// that have a time, and each of them for calls that are given a function too, where it has them.
-/// It takes no memory.
+/// Writes a method of the monitor, by its number: for calls that wait or are an assertion, those
+/// that try, and those that have a time, and each of them for calls that are given a function too,
+/// where it has them. It takes no memory.
 ///
 /// After `SinkFailed` the first bytes were taken, fewer than all and maybe none.
 pub fn write_methods_of<S: Sink>(
@@ -48,7 +50,8 @@ pub fn write_methods_of<S: Sink>(
     ensures { Wrote (S.seen out.old) (S.seen out.new) result
         (methods_text (seen source.now) number method.now) }
 {
-    write_both(source, number, method, Way::Waits, out)?;
+    let way = own_way(source.monitor, number);
+    write_both(source, number, method, way, out)?;
     write_try(source, number, method, out)?;
     write_times(source, number, method, out)
 }
@@ -133,7 +136,7 @@ fn has_with(tree: &MonitorTree, method: &MethodTree, way: Way) -> bool
     ensures { result ≡ has_with tree.now method.now way }
 {
     match way {
-        Way::Waits => is_with_free(tree, &method.name),
+        Way::Waits | Way::Asserts => is_with_free(tree, &method.name),
         Way::Tries => is_try_with_free(tree, &method.name),
         Way::Until => are_lasting_with_free(tree, &method.name),
         Way::For => are_lasting_with_free(tree, &method.name),
@@ -156,6 +159,46 @@ pub fn has_times(source: &Source, number: usize, method: &MethodTree) -> bool
     let tries = has_try(source, number, method);
     let free = are_lasting_free(source.tree, &method.name);
     tries && free
+}
+
+/// Whether some calls of a method of the monitor, by its number, are refused.
+pub fn refuses(source: &Source, number: usize, method: &MethodTree) -> bool
+    ensures { result ≡ refuses (seen source.now) number method.now }
+{
+    let asserts = has_assertion(source.monitor, number);
+    let tries = has_try(source, number, method);
+    asserts || tries
+}
+
+// How the calls wait that bear a method's own name.
+fn own_way(monitor: &Monitor, number: usize) -> Way
+    ensures { result ≡ own_way monitor.now number }
+{
+    way_by(has_assertion(monitor, number))
+}
+
+fn way_by(asserts: bool) -> Way
+    ensures { result ≡ if asserts then ways.Asserts else ways.Waits }
+{
+    if asserts { Way::Asserts } else { Way::Waits }
+}
+
+// Whether a method asserts a guard that is not `true`.
+fn has_assertion(monitor: &Monitor, number: usize) -> bool
+    ensures { result ≡ has_assertion monitor.now number }
+{
+    let asserts = asserts_at(monitor, number);
+    let guarded = is_guarded(monitor, first_of(monitor, number) as usize);
+    asserts && guarded
+}
+
+fn asserts_at(monitor: &Monitor, number: usize) -> bool
+    ensures { result ≡ asserts_in (slice_get monitor.now.methods number) }
+{
+    match monitor.methods().get(number) {
+        Some(method) => method.asserts,
+        None => false,
+    }
 }
 
 // Whether someone may wait for the guard of a method's first block.
@@ -192,7 +235,7 @@ fn lasts(way: Way) -> bool
 {
     match way {
         Way::For => true,
-        Way::Waits | Way::Tries | Way::Until => false,
+        Way::Waits | Way::Asserts | Way::Tries | Way::Until => false,
     }
 }
 
@@ -269,8 +312,7 @@ fn time_bytes(way: Way) -> &'static [u8]
     ensures { result.now ≡ time_text way }
 {
     match way {
-        Way::Waits => b"",
-        Way::Tries => b"",
+        Way::Waits | Way::Asserts | Way::Tries => b"",
         Way::Until => b", end: Instant",
         Way::For => b", time: Duration",
     }

@@ -7,7 +7,7 @@ use Rattle.lang_tree.specs.declared.tree.StmtTree.{StmtTree}
 use Rattle.machine_events.specs.Configurations.{block_condition}
 use Rattle.emit_bodies.specs.Bodies.{body_text}
 use Rattle.emit_bodies.specs.Guards.{guard_text}
-use Rattle.emit_statements.specs.Sources.{SourceParts, answer_of, is_whole, reads_inputs}
+use Rattle.emit_statements.specs.Sources.{SourceParts, answer_of, is_whole, tests_alone}
 use Rattle.emit_module.specs.Modules.{body_function, test_function, tests_guard}
 
 module _ (source : SourceParts) (method : MethodTree) (place block : ℕ) (parts : BlockTree) where
@@ -19,13 +19,13 @@ module _ (source : SourceParts) (method : MethodTree) (place block : ℕ) (parts
 
   pub no_test : (condition : ℕ) (answer : Bool) → condition ≡ own → answer ≡ tests_guard source.monitor condition block → answer ≡ false → [] ≡ test_function source method place block parts
   no_test condition answer is says lacks =
-      ap (λ (b : Bool). test_by b (reads_inputs source.monitor own)) (sym lacks ∙ says ∙ ap (λ (q : ℕ). tests_guard source.monitor q block) is)
+      ap (λ (b : Bool). test_by b (tests_alone source.monitor own)) (sym lacks ∙ says ∙ ap (λ (q : ℕ). tests_guard source.monitor q block) is)
 
-  pub some_test : (condition : ℕ) (answer reads : Bool) → condition ≡ own → answer ≡ tests_guard source.monitor condition block → reads ≡ reads_inputs source.monitor condition → answer ≡ true
+  pub some_test : (condition : ℕ) (answer reads : Bool) → condition ≡ own → answer ≡ tests_guard source.monitor condition block → reads ≡ tests_alone source.monitor condition → answer ≡ true
       → codes "\n" ++ guard_text source.tree method (place + 1) reads parts.guard ≡ test_function source method place block parts
   some_test condition answer reads is says same holds =
-      ap (test_by true) (same ∙ ap (reads_inputs source.monitor) is)
-      ∙ ap (λ (b : Bool). test_by b (reads_inputs source.monitor own)) (sym holds ∙ says ∙ ap (λ (q : ℕ). tests_guard source.monitor q block) is)
+      ap (test_by true) (same ∙ ap (tests_alone source.monitor) is)
+      ∙ ap (λ (b : Bool). test_by b (tests_alone source.monitor own)) (sym holds ∙ says ∙ ap (λ (q : ℕ). tests_guard source.monitor q block) is)
 
   pub body_says : (answer : Option Kind) (body : List StmtTree) (whole : Bool) → answer ≡ answer_of source.monitor block → body ≡ parts.body → whole ≡ is_whole source block
       → codes "\n" ++ body_text source.tree method (place + 1) answer body whole ≡ body_function source method place block parts

@@ -13,7 +13,7 @@ use Rattle.lang_monitor.specs.MonitorParts.{MonitorParts, first_in}
 use Rattle.machine_events.specs.declared.plan.Plan.{Plan}
 use Rattle.machine_events.specs.PlanText.{plan_text}
 use Rattle.machine_events.specs.Configurations.{block_condition}
-use Rattle.emit_code.specs.Code.{is_always, is_waited_on}
+use Rattle.emit_code.specs.Code.{is_always, is_guarded}
 use Rattle.emit_comments.specs.Comments.{comment_docs, first_line, has_comments, leading_docs}
 use Rattle.emit_comments.specs.Comments.{line_of}
 use Rattle.emit_names.specs.declared.style.Style.TheVariants as styles
@@ -22,10 +22,10 @@ use Rattle.emit_names.specs.Lints.{has_odd_name}
 use Rattle.emit_bodies.specs.Blocks.{kind_declared, kind_text}
 use Rattle.emit_bodies.specs.Bodies.{body_text}
 use Rattle.emit_bodies.specs.Guards.{guard_text}
-use Rattle.emit_statements.specs.Sources.{SourceParts, source_of, answer_of, is_whole, reads_inputs}
+use Rattle.emit_statements.specs.Sources.{SourceParts, source_of, answer_of, is_whole, tests_alone}
 use Rattle.emit_statements.specs.Conditions.{around_count, around_name, first_block}
 use Rattle.emit_statements.specs.Statements.{method_fails, method_shortens}
-use Rattle.emit_method.specs.Methods.{has_times, has_try, methods_text, start_text, typed_start}
+use Rattle.emit_method.specs.Methods.{has_times, methods_text, refuses, start_text, typed_start}
 use Rattle.emit_module.specs.Fixed.{VERSION, HEAD, NEW, WITH, WITH_DATA, DATA, DEFAULT, DEBUG}
 use Rattle.emit_module.specs.Fixed.{DEBUG_END, INNER, COPY, COPY_END, STATE, STATE_IMPL, LOCK, WAIT}
 use Rattle.emit_module.specs.Fixed.{TIMES, OVERFLOW, REFUSED, FAILED, WHOLE}
@@ -293,12 +293,12 @@ abbrev pub is_first : Option ℕ → ℕ → Bool
 is_first None block = false
 is_first (Some first) block = first == block
 
--- A block has a test of its guard where its condition is waited on, and either the guard reads
--- inputs, or the block is the first of the condition.
+-- A block has a test of its guard where this is not `true`, and either each block of its condition
+-- has one, or the block is the first of the condition.
 abbrev pub tests_guard : MonitorParts → ℕ → ℕ → Bool
 tests_guard monitor condition block =
-    is_waited_on monitor condition
-    && (reads_inputs monitor condition || is_first (first_block monitor condition) block)
+    is_guarded monitor block
+    && (tests_alone monitor condition || is_first (first_block monitor condition) block)
 
 -- by the number of a block in its method, from 0, and in the monitor
 abbrev pub test_function : SourceParts → MethodTree → ℕ → ℕ → BlockTree → List ℕ
@@ -306,7 +306,7 @@ test_function source method place block parts =
     let condition = block_condition source.monitor block in
     if tests_guard source.monitor condition block
     then codes "\n" ++ guard_text source.tree method (place + 1)
-    (reads_inputs source.monitor condition) parts.guard
+    (tests_alone source.monitor condition) parts.guard
     else []
 
 -- the function of its body, in the same way
@@ -348,10 +348,10 @@ abbrev pub shortens_somewhere : SourceParts → Bool
 shortens_somewhere source =
     list_any (λ one. method_shortens source one.0 one.1) (enumerate_from 0 source.tree.methods)
 
--- the calls of a method that try or have a time are refused, by whether it may fail too
+-- some calls of a method are refused, by whether it may fail too
 abbrev pub refuses_so : SourceParts → Bool → ℕ → MethodTree → Bool
 refuses_so source fails number method =
-    has_try source number method && (if fails then method_fails source number method
+    refuses source number method && (if fails then method_fails source number method
     else not (method_fails source number method))
 
 -- so are those of some method

@@ -28,7 +28,7 @@ use crate::fixed::{
 use crate::state::{write_inner, write_state, write_state_impl};
 use base_io::{Sink, SinkFailed, write_piece};
 use emit_comments::{first_line, has_comments, line_of, write_comments, write_leading};
-use emit_method::{has_times, has_try, write_methods_of, write_typed_start};
+use emit_method::{has_times, refuses, write_methods_of, write_typed_start};
 use emit_names::{Style, write_member, write_type};
 use emit_statements::{Source, is_always, method_fails, method_shortens};
 use lang_base::Named;
@@ -497,7 +497,7 @@ fn either(one: bool, other: bool) -> bool
 fn refuses_so(source: &Source, fails: bool, number: usize, method: &MethodTree) -> bool
     ensures { result ≡ refuses_so (seen source.now) fails number method.now }
 {
-    let tries = has_try(source, number, method);
+    let refused = refuses(source, number, method);
     let failing = method_fails(source, number, method);
-    tries && if fails { failing } else { !failing }
+    refused && if fails { failing } else { !failing }
 }

@@ -20,7 +20,7 @@ use crate::fixed::{copy_bytes, copy_end, inner_bytes, state_bytes, state_impl_by
 use base_io::{Sink, SinkFailed, write_piece};
 use emit_bodies::{write_body, write_guard};
 use emit_statements::{
-    Source, answer_of, condition_of, first_block, first_of, is_waited_on, is_whole, reads_inputs,
+    Source, answer_of, condition_of, first_block, first_of, is_guarded, is_whole, tests_alone,
 };
 use lang_base::Kind;
 use lang_monitor::Monitor;
@@ -184,8 +184,8 @@ fn write_test_function<S: Sink>(
     if !tests_guard(source.monitor, condition, block) {
         return Ok(());
     }
-    let reads = reads_inputs(source.monitor, condition);
-    write_own_guard(source, method, place + 1, reads, &parts.guard, out)
+    let alone = tests_alone(source.monitor, condition);
+    write_own_guard(source, method, place + 1, alone, &parts.guard, out)
 }
 
 fn write_own_guard<S: Sink>(
@@ -203,15 +203,15 @@ fn write_own_guard<S: Sink>(
     write_guard(source.tree, method, number, reads, guard, out)
 }
 
-// Whether a block has a test of its guard: its condition is waited on, and its guard reads inputs,
-// or this is the first block of the condition.
+// Whether a block has a test of its guard: this is not `true`, and each block of its condition has
+// one, or this is the first of them.
 fn tests_guard(monitor: &Monitor, condition: u32, block: usize) -> bool
     ensures { result ≡ tests_guard monitor.now condition block }
 {
-    let waited = is_waited_on(monitor, condition);
-    let reads = reads_inputs(monitor, condition);
+    let guarded = is_guarded(monitor, block);
+    let alone = tests_alone(monitor, condition);
     let first = is_first(first_block(monitor, condition), block);
-    waited && (reads || first)
+    guarded && (alone || first)
 }
 
 fn is_first(first: Option<usize>, block: usize) -> bool

@@ -1,5 +1,5 @@
 -- The sums of a tree that is parsed from a file are no longer than the file.
-use Rattle.std.proofs.Common.{◌≡◌, ℕ, zero, suc, ◌+◌, ◌≤◌, inl, inr, Bool, true, ◌&&◌, List, [], ◌∷◌, ◌++◌, length, map, All, Option, Some, None, refl, sym, ap, subst, ◌∙◌, arith, length-append}
+use Rattle.std.proofs.Common.{◌≡◌, ℕ, zero, suc, ◌+◌, ◌≤◌, inl, inr, Bool, true, false, ◌&&◌, List, [], ◌∷◌, ◌++◌, length, map, All, Option, Some, None, refl, sym, ap, subst, ◌∙◌, arith, length-append}
 use Rattle.std.specs.Prelude.{nat_le, slice_get}
 use Rattle.std.specs.List.{flat_map, list_all}
 use Rattle.std.proofs.lemmas.Bool.{and_from}
@@ -24,7 +24,7 @@ use Rattle.lang_tree.specs.declared.tree.StmtTree.TheFolds.{fold-roll-StmtTree, 
 use Rattle.lang_tree.specs.declared.tree.BlockTree.{BlockTree}
 use Rattle.lang_tree.specs.declared.tree.MethodTree.{MethodTree}
 use Rattle.lang_tree.specs.declared.tree.MonitorTree.{MonitorTree}
-use Rattle.lang_syntax.specs.Grammar.{Rule, ◌⌢◌, Each, OneOrMore, Maybe, IsBlock, IsIdent, IsMarkAt, IsMark, IsLocal, IsDeclaration, AreInputs, chain, IsFactor, IsProduct, IsAddend, IsSum, comparison, IsCompared, IsComparison, both, IsConjunction, either, IsDisjunction, IsAtom, IsOpened, IsUnary, IsExpression, IsElse, IsSimple, IsIf, IsStatement, IsGuarded, IsMethod, IsMonitorFile, IsParsed, op_sign, sum_sign}
+use Rattle.lang_syntax.specs.Grammar.{Rule, ◌⌢◌, Each, OneOrMore, Maybe, IsBlock, IsIdent, IsMarkAt, IsMark, IsLocal, IsDeclaration, AreInputs, chain, IsFactor, IsProduct, IsAddend, IsSum, comparison, IsCompared, IsComparison, both, IsConjunction, either, IsDisjunction, IsAtom, IsOpened, IsUnary, IsExpression, IsElse, IsSimple, IsIf, IsStatement, IsGuarded, ASSERTS, IsAsserted, AreBlocks, IsMethod, IsMonitorFile, IsParsed, op_sign, sum_sign}
 use Rattle.lang_types.specs.KeptMeaning.{expressions_in, expressions_of, expressions_step}
 use Rattle.lang_types.specs.Typed.{PlacedBlock, blocks_from, placed_in}
 use Rattle.emit_numbers.proofs.SumLengths.{has_short_sums, short_step}
@@ -280,14 +280,22 @@ body_kept : (body : List StmtTree) → All Kept body → All Good (expressions_i
 body_kept [] held = All-nil Good
 body_kept (s ∷ body) held = All-append Good (expressions_of s) (expressions_in body) (All-head Kept s body held) (body_kept body (All-tail Kept s body held))
 
-guarded : (b : BlockTree) → Gives (IsGuarded b) (HasShortSums b)
-guarded b = record {
+-- a block, whatever word opens it
+any_block : (Opening : List Word → Type 0) (b : BlockTree)
+    → Gives (Opening ⌢ IsMark kinds.OpenParen ⌢ IsExpression LEVELS b.guard ⌢ IsMark kinds.CloseParen ⌢ IsBlock (IsStatement LEVELS) b.body) (HasShortSums b)
+any_block Opening b = record {
   gives = λ ws r few.
       let got =
-      (IsMarkAt kinds.KeyWaituntil b.at &> IsMark kinds.OpenParen &> (expression LEVELS b.guard & (IsMark kinds.CloseParen
+      (Opening &> IsMark kinds.OpenParen &> (expression LEVELS b.guard & (IsMark kinds.CloseParen
       &> block (IsStatement LEVELS) (statement LEVELS) b.body))).gives ws r few in
       All-cons Good b.guard (expressions_in b.body) got.0 (body_kept b.body got.1);
 }
+
+guarded : (b : BlockTree) → Gives (IsGuarded b) (HasShortSums b)
+guarded b = any_block (IsMarkAt kinds.KeyWaituntil b.at) b
+
+asserted : (b : BlockTree) → Gives (IsAsserted b) (HasShortSums b)
+asserted b = any_block (IsIdent ASSERTS b.at) b
 
 all_guarded : (bs : List BlockTree) → Gives (OneOrMore IsGuarded bs) (All HasShortSums bs)
 all_guarded [] = record { gives = λ ws r few. absurd r }
@@ -295,13 +303,19 @@ all_guarded (b ∷ bs) = record {
   gives = λ ws r few. let got = (guarded b & each IsGuarded HasShortSums guarded bs).gives ws r few in All-cons HasShortSums b bs got.0 got.1;
 }
 
+all_blocks : (asserts : Bool) (bs : List BlockTree) → Gives (AreBlocks asserts bs) (All HasShortSums bs)
+all_blocks false bs = all_guarded bs
+all_blocks true [] = record { gives = λ ws r few. absurd r }
+all_blocks true (b ∷ []) = record { gives = λ ws r few. All-cons HasShortSums b [] ((asserted b).gives ws r few) (All-nil HasShortSums) }
+all_blocks true (b ∷ (next ∷ more)) = record { gives = λ ws r few. absurd r }
+
 abbrev OfMethod : MethodTree → Type 0
 OfMethod method = All HasShortSums method.blocks
 
 method : (m : MethodTree) → Gives (IsMethod m) (OfMethod m)
 method m =
     IsMark kinds.KeyMethod &> IsIdent m.name m.at &> IsMark kinds.OpenParen &> AreInputs m.inputs &> IsMark kinds.CloseParen
-    &> Each IsLocal m.locals &> all_guarded m.blocks
+    &> Each IsLocal m.locals &> all_blocks m.asserts m.blocks
 
 file : (tree : MonitorTree) (ws : List Word) → IsMonitorFile tree ws → AreFew ws → All OfMethod tree.methods
 file tree ws r few =

@@ -1,5 +1,5 @@
 -- A printed test is as true as its block's guard, and as its condition's.
-use Rattle.std.proofs.Common.{◌≡◌, ℕ, zero, suc, ◌-◌, Bool, true, false, List, [], ◌∷◌, Option, Some, None, refl, sym, ap, subst, ◌∙◌}
+use Rattle.std.proofs.Common.{◌≡◌, ◌≤◌, ℕ, zero, suc, ◌-◌, Bool, true, false, List, [], ◌∷◌, Option, Some, None, refl, sym, ap, subst, ◌∙◌}
 use Rattle.std.specs.Prelude.{slice_get, IsSomeAnd}
 use Rattle.std.specs.List.{All}
 use Rattle.std.proofs.lemmas.List.Elements.{All-head, All-tail}
@@ -43,13 +43,13 @@ module _ (tree : MonitorTree) (monitor : MonitorParts) (index : ℕ) (placed : P
   test_alone : (inputs : Inputs) → reads_inputs block.guard ≡ false → printed_test tree placed false state inputs ≡ truth_of (valuation state inputs) block.guard
   test_alone inputs unread = taking no_inputs ∙ without_inputs state no_inputs inputs block.guard unread
 
-  test_by : (inputs : Inputs) (reads : Bool) → reads_inputs block.guard ≡ reads → printed_test tree placed reads state inputs ≡ truth_of (valuation state inputs) block.guard
-  test_by inputs true is = taking inputs
-  test_by inputs false is = test_alone inputs is
+  test_by : (inputs : Inputs) (takes : Bool) → (takes ≡ false → reads_inputs block.guard ≡ false) → printed_test tree placed takes state inputs ≡ truth_of (valuation state inputs) block.guard
+  test_by inputs true unread = taking inputs
+  test_by inputs false unread = test_alone inputs (unread refl)
 
 pub tests_hold : PrintedTestsHold
-tests_hold = λ tree monitor index placed block state inputs none typed here there.
-    test_by tree monitor index placed block state (record { none = none; typed = typed; here = here; there = there }) inputs (reads_inputs block.guard) refl
+tests_hold = λ tree monitor index placed block takes state inputs none typed here there unread.
+    test_by tree monitor index placed block state (record { none = none; typed = typed; here = here; there = there }) inputs takes unread
     ∙ sym (ap (block_truth state inputs) there)
 
 -- ---- conditions
@@ -73,13 +73,13 @@ same_guard None guard other has also = absurd has
 same_guard (Some one) guard other has also = sym has ∙ also
 
 pub shared_tests_hold : SharedTestsHold
-shared_tests_hold = λ tree monitor index placed block other waiting state inputs none typed here there waits same unread.
+shared_tests_hold = λ tree monitor index placed block other waiting state inputs none typed here there waits some same unread.
     let it : IsChecked tree monitor index placed block = record { none = none; typed = typed; here = here; there = there } in
-    let own = conditioned tree monitor index block typed there in
-    let others = conditioned tree monitor other waiting typed waits in
-    let theirs = subst (λ (number : ℕ). IsSomeAnd (slice_get monitor.conditions (number - 1)) (λ one. one.guard ≡ waiting.guard)) same others.1 in
+    let own = conditioned tree monitor index block typed there some in
+    let others = conditioned tree monitor other waiting typed waits (subst (λ (number : ℕ). 1 ≤ number) (sym same) some) in
+    let theirs = subst (λ (number : ℕ). IsSomeAnd (slice_get monitor.conditions (number - 1)) (λ one. one.guard ≡ waiting.guard)) same others in
     let which = slice_get monitor.conditions (block.condition - 1) in
     let alone = test_alone tree monitor index placed block state it in (
-      alone no_inputs unread ∙ sym (condition_is state which block.guard own.1),
-      alone inputs unread ∙ ap (truth_of (valuation state inputs)) (same_guard which block.guard waiting.guard own.1 theirs) ∙ sym (ap (block_truth state inputs) waits),
+      alone no_inputs unread ∙ sym (condition_is state which block.guard own),
+      alone inputs unread ∙ ap (truth_of (valuation state inputs)) (same_guard which block.guard waiting.guard own theirs) ∙ sym (ap (block_truth state inputs) waits),
     )

@@ -1,5 +1,5 @@
 -- What the laws say.
-use Rattle.std.specs.Prelude.{◌≡◌, ℕ, Bool, true, false, List, [], ◌∷◌, All, Some, slice_get, codes}
+use Rattle.std.specs.Prelude.{◌≡◌, ◌≤◌, ℕ, Bool, true, false, List, [], ◌∷◌, All, Some, slice_get, codes}
 use Rattle.lang_tree.specs.declared.tree.Expr.{Expr}
 use Rattle.lang_tree.specs.declared.tree.MonitorTree.{MonitorTree}
 use Rattle.lang_base.specs.declared.value.Value.{Value}
@@ -81,16 +81,16 @@ StartsAreShort =
 -- ---- guards
 
 -- At each state and inputs, a call of the function that is printed of a block's guard answers
--- whether the guard is true: with these inputs where the guard reads any, and else without them.
+-- whether the guard is true: with these inputs, or, where the guard reads none, without them.
 abbrev pub PrintedTestsHold : Type 0
 PrintedTestsHold =
     (tree : MonitorTree) (monitor : MonitorParts) (index : ℕ) (placed : PlacedBlock)
-    (block : Block) (state : List Value) (inputs : Inputs)
+    (block : Block) (takes : Bool) (state : List Value) (inputs : Inputs)
     → faults_of tree ≡ [] → IsTyped tree monitor
     → slice_get (blocks_from 0 tree.methods) index ≡ Some placed
     → slice_get monitor.blocks index ≡ Some block
-    → printed_test tree placed (reads_inputs block.guard) state inputs
-    ≡ guard_truth monitor state index inputs
+    → (takes ≡ false → reads_inputs block.guard ≡ false)
+    → printed_test tree placed takes state inputs ≡ guard_truth monitor state index inputs
 
 -- Where the guard reads no inputs, one such function serves all blocks of a condition: it answers
 -- whether the condition's guard is true, and so whether that of each of its blocks is, at whatever
@@ -103,7 +103,7 @@ SharedTestsHold =
     → slice_get (blocks_from 0 tree.methods) index ≡ Some placed
     → slice_get monitor.blocks index ≡ Some block
     → slice_get monitor.blocks other ≡ Some waiting
-    → waiting.condition ≡ block.condition
+    → 1 ≤ block.condition → waiting.condition ≡ block.condition
     → reads_inputs block.guard ≡ false
     → (printed_test tree placed false state inputs
     ≡ condition_truth monitor state block.condition)

@@ -23,10 +23,11 @@ pub fn printed_numbers_are_wide()
     ensures plain { WorksOutPlainly }
 {}
 
-/// A call of the function that is printed of a block's guard answers whether the guard is true. One
-/// that reads no inputs is printed without them, once for its condition: it answers whether the
-/// condition's guard is true, which is that of each block of the condition at whatever inputs. The
-/// numbers that it makes on the way are those of [`printed_numbers_are_wide`], without inputs.
+/// A call of the function that is printed of a block's guard answers whether the guard is true: of a
+/// guard that reads inputs, or that a method asserts, it takes them. Another one is printed without
+/// them, once for its condition: it answers whether the condition's guard is true, which is that of
+/// each block of the condition at whatever inputs. The numbers that it makes on the way are those
+/// of [`printed_numbers_are_wide`], without inputs.
 pub fn printed_tests_hold()
     ensures own { PrintedTestsHold }
     ensures shared { SharedTestsHold }

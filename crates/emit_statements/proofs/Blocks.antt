@@ -8,7 +8,7 @@ use Rattle.machine_events.specs.declared.plan.Note.{Note}
 use Rattle.machine_events.specs.declared.plan.Plan.{Plan}
 use Rattle.machine_events.specs.Plans.{notes_at}
 use Rattle.machine_events.specs.Configurations.{block_condition}
-use Rattle.emit_code.specs.Code.{Op, blocks_code, is_waited_on, late_order, overflow_notes, test_code}
+use Rattle.emit_code.specs.Code.{Op, blocks_code, is_guarded, late_order, overflow_notes, test_code}
 use Rattle.emit_code.specs.Code.Op.{Lock, WaitUntil, ElseRefuse, Run}
 use Rattle.emit_code.specs.LivePlans.{heard_notes, live_plan}
 use Rattle.emit_code.proofs.Live.{notes_live}
@@ -70,16 +70,16 @@ module _ (it : MethodParts) where
 
   -- a test, and what comes after it
   tested : (tries : Bool) (block : ℕ) (rest : List Op) → ops_text it (test_code it.source.monitor tries block rest) ≡ test_ops it tries block ++ ops_text it rest
-  tested tries block rest = by (is_waited_on it.source.monitor (block_condition it.source.monitor block)) tries
+  tested tries block rest = by (is_guarded it.source.monitor block) (tries || condition == 0)
     where
       condition : ℕ
       condition = block_condition it.source.monitor block
 
-      by : (waited try : Bool) → ops_text it (cond waited (cond try (ElseRefuse block ∷ rest) (WaitUntil block condition ∷ rest)) rest)
-          ≡ ops_text it (cond waited (cond try (ElseRefuse block ∷ []) (WaitUntil block condition ∷ [])) []) ++ ops_text it rest
+      by : (guarded refuses : Bool) → ops_text it (cond guarded (cond refuses (ElseRefuse block ∷ rest) (WaitUntil block condition ∷ rest)) rest)
+          ≡ ops_text it (cond guarded (cond refuses (ElseRefuse block ∷ []) (WaitUntil block condition ∷ [])) []) ++ ops_text it rest
       by true true = ap (λ text. text ++ ops_text it rest) (sym (append-nil (op_text it (ElseRefuse block))))
       by true false = ap (λ text. text ++ ops_text it rest) (sym (append-nil (op_text it (WaitUntil block condition))))
-      by false try = refl
+      by false refuses = refl
 
   -- the first of some blocks
   first_block : (tries : Bool) (block more : ℕ) → texts tries block (suc more) ≡ block_ops it tries block ++ texts false (block + 1) more

@@ -1,8 +1,8 @@
 -- The statements of a block, by what stands for their parts.
-use Rattle.std.proofs.Common.{◌≡◌, ℕ, Bool, true, false, cond, List, [], ◌∷◌, ◌++◌, ◌∙◌, codes, ap, sym, append_assoc, append-nil}
+use Rattle.std.proofs.Common.{◌≡◌, ◌==◌, ◌||◌, ℕ, Bool, true, false, cond, List, [], ◌∷◌, ◌++◌, ◌∙◌, codes, ap, sym, append_assoc, append-nil}
 use Rattle.machine_events.specs.declared.plan.Note.{Note}
 use Rattle.machine_events.specs.Configurations.{block_condition}
-use Rattle.emit_code.specs.Code.{is_waited_on, overflow_notes, signal_on}
+use Rattle.emit_code.specs.Code.{is_guarded, is_waited_on, overflow_notes, signal_on}
 use Rattle.emit_code.specs.Code.Op.{WaitUntil, ElseRefuse}
 use Rattle.emit_statements.specs.Sources.{answer_of}
 use Rattle.emit_statements.specs.Ways.{may_refuse}
@@ -17,18 +17,22 @@ module _ (it : MethodParts) (block : ℕ) where
   waits = is_waited_on it.source.monitor (block_condition it.source.monitor block)
 
   abbrev test_by : Bool → Bool → List ℕ
-  test_by waiting tries = ops_text it (cond waiting (cond tries (ElseRefuse block ∷ []) (WaitUntil block (block_condition it.source.monitor block) ∷ [])) [])
+  test_by guarded refuses = ops_text it (cond guarded (cond refuses (ElseRefuse block ∷ []) (WaitUntil block (block_condition it.source.monitor block) ∷ [])) [])
 
-  pub test_none : (tries answer : Bool) → answer ≡ waits → answer ≡ false → [] ≡ test_ops it tries block
-  test_none tries answer is lacks = ap (λ (b : Bool). test_by b tries) (sym lacks ∙ is)
+  -- where the guard is false the call is refused
+  abbrev pub asks : Bool → Bool
+  asks tries = tries || block_condition it.source.monitor block == 0
 
-  pub test_refuses : (tries answer : Bool) → answer ≡ waits → answer ≡ true → tries ≡ true → op_text it (ElseRefuse block) ≡ test_ops it tries block
-  test_refuses tries answer is holds try =
-      sym (append-nil (op_text it (ElseRefuse block))) ∙ ap (λ (b : Bool). test_by true b) (sym try) ∙ ap (λ (b : Bool). test_by b tries) (sym holds ∙ is)
+  pub test_none : (tries answer : Bool) → answer ≡ is_guarded it.source.monitor block → answer ≡ false → [] ≡ test_ops it tries block
+  test_none tries answer is lacks = ap (λ (b : Bool). test_by b (asks tries)) (sym lacks ∙ is)
 
-  pub test_waits : (tries answer : Bool) → answer ≡ waits → answer ≡ true → tries ≡ false → op_text it (WaitUntil block (block_condition it.source.monitor block)) ≡ test_ops it tries block
-  test_waits tries answer is holds lacks =
-      sym (append-nil (op_text it (WaitUntil block (block_condition it.source.monitor block)))) ∙ ap (λ (b : Bool). test_by true b) (sym lacks) ∙ ap (λ (b : Bool). test_by b tries) (sym holds ∙ is)
+  pub test_refuses : (tries answer refuses : Bool) → answer ≡ is_guarded it.source.monitor block → answer ≡ true → refuses ≡ asks tries → refuses ≡ true → op_text it (ElseRefuse block) ≡ test_ops it tries block
+  test_refuses tries answer refuses is holds says refused =
+      sym (append-nil (op_text it (ElseRefuse block))) ∙ ap (λ (b : Bool). test_by true b) (sym refused ∙ says) ∙ ap (λ (b : Bool). test_by b (asks tries)) (sym holds ∙ is)
+
+  pub test_waits : (tries answer refuses : Bool) → answer ≡ is_guarded it.source.monitor block → answer ≡ true → refuses ≡ asks tries → refuses ≡ false → op_text it (WaitUntil block (block_condition it.source.monitor block)) ≡ test_ops it tries block
+  test_waits tries answer refuses is holds says lacks =
+      sym (append-nil (op_text it (WaitUntil block (block_condition it.source.monitor block)))) ∙ ap (λ (b : Bool). test_by true b) (sym lacks ∙ says) ∙ ap (λ (b : Bool). test_by b (asks tries)) (sym holds ∙ is)
 
   -- ---- the body
 

@@ -1,6 +1,6 @@
 -- What a module is printed of.
-use Rattle.std.specs.Prelude.{Option, Some, None, Bool, false, slice_get}
-use Rattle.std.specs.Prelude.{ℕ, ◌-◌, List}
+use Rattle.std.specs.Prelude.{Option, Some, None, Bool, false, ◌||◌, slice_get}
+use Rattle.std.specs.Prelude.{ℕ, ◌-◌, ◌==◌, List}
 use Rattle.std.specs.Option.{option_map_or}
 use Rattle.lang_base.specs.declared.kind.Kind.{Kind}
 use Rattle.lang_base.specs.declared.kind.Kind.TheVariants as kinds
@@ -45,6 +45,11 @@ seen source =
 abbrev pub reads_inputs : MonitorParts → ℕ → Bool
 reads_inputs monitor condition =
     option_map_or (λ which. which.reads_inputs) (slice_get monitor.conditions (condition - 1)) false
+
+-- each block of the condition has a test of its own: the guard reads inputs or locals, or there is
+-- no condition, as of blocks that assert
+abbrev pub tests_alone : MonitorParts → ℕ → Bool
+tests_alone monitor condition = condition == 0 || reads_inputs monitor condition
 
 -- no number of the block of this number leaves 64 bits
 abbrev pub is_whole : SourceParts → ℕ → Bool

@@ -19,7 +19,7 @@ use Rattle.emit_bodies.specs.Bodies.{body_fails, body_shortens}
 use Rattle.emit_statements.specs.declared.source.Calls.{Calls}
 use Rattle.emit_statements.specs.declared.ways.Way.{Way}
 use Rattle.emit_statements.specs.Ways.{ends, may_refuse, tries}
-use Rattle.emit_statements.specs.Sources.{SourceParts, seen, answer_of, is_whole, reads_inputs}
+use Rattle.emit_statements.specs.Sources.{SourceParts, seen, answer_of, is_whole, tests_alone}
 use Rattle.emit_statements.specs.Conditions.{arguments_text, around_count, around_name}
 
 -- ---- whether a call may fail
@@ -97,12 +97,12 @@ own_call it word block reach =
     block_name it.source.tree it.method word (block + 1 - it.first) ++ codes "("
     ++ arguments_text it.method reach ++ codes ")"
 
--- `can_put()`, or `can_withdraw(amount)`: where the guard of its condition reads inputs, each block
--- has a test of its own
+-- `can_put()`, or `can_withdraw(amount)`: where the guard of its condition reads inputs, and where
+-- there is no condition, each block has a test of its own
 abbrev pub test_text : MethodParts → ℕ → List ℕ
 test_text it block =
     let condition = block_condition it.source.monitor block in
-    if reads_inputs it.source.monitor condition then own_call it (codes "can") block reaches.Held
+    if tests_alone it.source.monitor condition then own_call it (codes "can") block reaches.Held
     else around_name it.source [] condition (codes "()")
 
 -- `inner.state.run_put(amount)`

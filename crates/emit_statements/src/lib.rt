@@ -18,8 +18,8 @@ mod working;
 
 pub use conditions::{comma_bytes, write_around_count, write_around_name, write_handed_parameters};
 pub use source::{
-    Calls, Source, answer_of, condition_of, count_of, first_block, first_of, is_always,
-    is_waited_on, is_whole, reads_inputs,
+    Calls, Source, answer_of, condition_of, count_of, first_block, first_of, is_always, is_guarded,
+    is_waited_on, is_whole, tests_alone,
 };
 pub use statements::{method_fails, method_shortens, write_blocks, write_end};
-pub use ways::{Way, may_refuse};
+pub use ways::{Way, asserts, may_refuse};

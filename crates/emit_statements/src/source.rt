@@ -1,13 +1,14 @@
 //! What a module is printed of.
 
-ghost use Rattle.std.specs.Prelude.{◌≡◌, ◌==◌, position, slice_get};
+ghost use Rattle.std.specs.Prelude.{◌≡◌, ◌-◌, ◌==◌, false, not, position, slice_get};
 ghost use Rattle.std.specs.List.{list_any};
+ghost use Rattle.std.specs.Option.{option_map_or};
 ghost use Rattle.lang_monitor.specs.MonitorParts.{count_in, first_in};
 ghost use Rattle.machine_events.specs.Configurations.{block_condition};
 ghost use Rattle.machine_events.specs.Plans.{notes_at};
-ghost use Rattle.emit_code.specs.Code.{is_always, is_waited_on};
+ghost use Rattle.emit_code.specs.Code.{is_always, is_guarded, is_waited_on};
 ghost use Rattle.emit_statements.specs.Sources.{answer_of, is_whole, kind_answered, reads_inputs};
-ghost use Rattle.emit_statements.specs.Sources.{seen};
+ghost use Rattle.emit_statements.specs.Sources.{seen, tests_alone};
 ghost use Rattle.emit_statements.specs.Conditions.{first_block, is_of};
 ghost use Rattle.emit_statements.specs.inner.Parts.{are_none};
 
@@ -114,9 +115,19 @@ fn are_none(parts: &[Formula]) -> bool
     }
 }
 
-/// Whether anyone ever waits on a condition: its guard is not `true`.
+/// Whether anyone ever waits on a condition: there is one of this number, and its guard is not
+/// `true`.
 pub fn is_waited_on(monitor: &Monitor, condition: u32) -> bool
     ensures { result ≡ is_waited_on monitor.now condition }
+{
+    let guarded = has_guard(monitor, condition);
+    condition != 0 && guarded
+}
+
+// Whether the guard of a condition is not `true`.
+fn has_guard(monitor: &Monitor, condition: u32) -> bool
+    ensures { result ≡ option_map_or (λ which. not (is_always which.guard))
+        (slice_get monitor.now.conditions (condition - 1)) false }
 {
     match monitor
         .conditions()
@@ -127,8 +138,27 @@ pub fn is_waited_on(monitor: &Monitor, condition: u32) -> bool
     }
 }
 
-/// Whether the guard of a condition reads inputs or locals.
-pub fn reads_inputs(monitor: &Monitor, condition: u32) -> bool
+/// Whether the guard of the block of this number is tested: it is not `true`.
+pub fn is_guarded(monitor: &Monitor, block: usize) -> bool
+    ensures { result ≡ is_guarded monitor.now block }
+{
+    match monitor.blocks().get(block) {
+        Some(block) => !is_always(&block.guard),
+        None => false,
+    }
+}
+
+/// Whether each block of a condition has a test of its own: its guard reads inputs or locals, or
+/// there is no condition, as of blocks that assert.
+pub fn tests_alone(monitor: &Monitor, condition: u32) -> bool
+    ensures { result ≡ tests_alone monitor.now condition }
+{
+    let reads = reads_inputs(monitor, condition);
+    condition == 0 || reads
+}
+
+// Whether the guard of a condition reads inputs or locals.
+fn reads_inputs(monitor: &Monitor, condition: u32) -> bool
     ensures { result ≡ reads_inputs monitor.now condition }
 {
     match monitor

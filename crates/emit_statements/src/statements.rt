@@ -25,8 +25,8 @@ ghost use Rattle.emit_code.specs.Code.Op.{ElseRefuse, WaitUntil};
 
 use crate::conditions::{write_arguments, write_around_count, write_around_name};
 use crate::source::{
-    Calls, Source, answer_of, are_heard, condition_of, first_of, is_waited_on, is_whole, notes_of,
-    reads_inputs,
+    Calls, Source, answer_of, are_heard, condition_of, first_of, is_guarded, is_waited_on,
+    is_whole, notes_of, tests_alone,
 };
 use crate::ways::{Way, ends, may_refuse, tries};
 use crate::working::{work_end, works_at, write_work};
@@ -181,13 +181,22 @@ fn write_test<S: Sink>(it: &Calls, tries: bool, block: usize, out: &mut S) -> Re
     ensures { Wrote (S.seen out.old) (S.seen out.new) result
         (test_ops (method_seen it.now) tries block) }
 {
-    if !waits_at(it, block) {
+    if !is_guarded(it.source.monitor, block) {
         return Ok(());
     }
-    if tries {
+    if refuses_at(it, tries, block) {
         return write_refusal(it, block, out);
     }
     write_loop(it, block, out)
+}
+
+// Whether the call is refused where the guard is false: it tries, or nobody waits for the guard.
+fn refuses_at(it: &Calls, tries: bool, block: usize) -> bool
+    ensures { result ≡
+        (tries || (block_condition it.now.source.now.monitor.now block == 0)) }
+{
+    let condition = condition_of(it.source.monitor, block);
+    tries || condition == 0
 }
 
 // Whether someone may wait for the guard of the block of this number.
@@ -333,7 +342,7 @@ fn write_call_of_test<S: Sink>(it: &Calls, block: usize, out: &mut S) -> Result<
     ensures { Wrote (S.seen out.old) (S.seen out.new) result
         (test_text (method_seen it.now) block) }
 {
-    if reads_inputs(it.source.monitor, condition_of(it.source.monitor, block)) {
+    if tests_alone(it.source.monitor, condition_of(it.source.monitor, block)) {
         return write_own_call(it, b"can", block, Reach::Held, out);
     }
     write_around_own_name(it, b"", block, b"()", out)

@@ -1,13 +1,15 @@
 //! How the calls of a method wait for its first guard.
 
 ghost use Rattle.std.specs.Prelude.{◌≡◌};
-ghost use Rattle.emit_statements.specs.Ways.{ends, may_refuse, tries};
+ghost use Rattle.emit_statements.specs.Ways.{asserts, ends, may_refuse, tries};
 
 /// How the calls of a method wait for the guard of its first block.
 #[derive(Clone, Copy, Debug, PartialEq, Eq)]
 pub enum Way {
     /// Until it is true.
     Waits,
+    /// No call of the method does: it asserts the guard, and they are refused where it is false.
+    Asserts,
     /// They do not, and are refused where it is false.
     Tries,
     /// No longer than until a time.
@@ -21,7 +23,7 @@ pub(crate) fn tries(way: Way) -> bool
     ensures { result ≡ tries way }
 {
     match way {
-        Way::Tries => true,
+        Way::Asserts | Way::Tries => true,
         Way::Waits | Way::Until | Way::For => false,
     }
 }
@@ -32,7 +34,7 @@ pub(crate) fn ends(way: Way) -> bool
 {
     match way {
         Way::Until => true,
-        Way::Waits | Way::Tries | Way::For => false,
+        Way::Waits | Way::Asserts | Way::Tries | Way::For => false,
     }
 }
 
@@ -42,6 +44,16 @@ pub fn may_refuse(way: Way) -> bool
 {
     match way {
         Way::Waits => false,
-        Way::Tries | Way::Until | Way::For => true,
+        Way::Asserts | Way::Tries | Way::Until | Way::For => true,
+    }
+}
+
+/// Whether the method asserts that guard.
+pub fn asserts(way: Way) -> bool
+    ensures { result ≡ asserts way }
+{
+    match way {
+        Way::Asserts => true,
+        Way::Waits | Way::Tries | Way::Until | Way::For => false,
     }
 }

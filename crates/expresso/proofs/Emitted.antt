@@ -47,12 +47,12 @@ bodies_step law bytes tree monitor whole accepted = λ index placed is block sta
     law tree monitor index placed is block state inputs accepted.unbroken accepted.typed at held short short_arguments short_locals may
 
 tests_hold : PrintedTestsHold → (bytes : List ℕ) (tree : MonitorTree) (monitor : MonitorParts) → IsAccepted bytes tree monitor → TestsHold tree monitor
-tests_hold law bytes tree monitor accepted = λ index placed block state inputs at held.
-    law tree monitor index placed block state inputs accepted.unbroken accepted.typed at held
+tests_hold law bytes tree monitor accepted = λ index placed block takes state inputs at held unread.
+    law tree monitor index placed block takes state inputs accepted.unbroken accepted.typed at held unread
 
 tests_are_shared : SharedTestsHold → (bytes : List ℕ) (tree : MonitorTree) (monitor : MonitorParts) → IsAccepted bytes tree monitor → TestsAreShared tree monitor
-tests_are_shared law bytes tree monitor accepted = λ index placed block other waiting state inputs at held too same bare.
-    law tree monitor index placed block other waiting state inputs accepted.unbroken accepted.typed at held too same bare
+tests_are_shared law bytes tree monitor accepted = λ index placed block other waiting state inputs at held too some same bare.
+    law tree monitor index placed block other waiting state inputs accepted.unbroken accepted.typed at held too some same bare
 
 numbers_stay_wide : PrintedNumbersAreWide → (bytes : List ℕ) (tree : MonitorTree) (monitor : MonitorParts) → IsAccepted bytes tree monitor → NumbersStayWide tree
 numbers_stay_wide law bytes tree monitor accepted = λ index placed arguments memory at short short_state short_locals.

@@ -2,6 +2,7 @@
 use Rattle.std.proofs.Common.{◌≡◌, ◌⊎◌, ℕ, zero, suc, ◌+◌, ◌-◌, List, [], ◌∷◌, ◌++◌, length, All, inl, inr, refl, sym, ap, subst, ◌∙◌}
 use Rattle.std.specs.List.{slice_get}
 use Rattle.std.specs.Option.{IsSomeAnd}
+use Rattle.std.proofs.lemmas.Bool.{true≢false}
 use Rattle.std.proofs.lemmas.List.Elements.{All-head, All-tail}
 use Rattle.logic_linear.specs.declared.formula.Formula.{Formula}
 use Rattle.lang_tokens.specs.declared.token.Token.{Token}
@@ -85,22 +86,29 @@ one_rest declared before [] [] (b ∷ others) all them distinct p q c d = absurd
 one_rest declared before [] (a ∷ some) others all them distinct p q c d = absurd p
 one_rest declared before (placed ∷ row) [] others all them distinct p q c d = absurd p
 one_rest declared before (placed ∷ row) (a ∷ some) [] all them distinct p q c d = absurd q
-one_rest declared before (placed ∷ row) (a ∷ some) (b ∷ others) all them distinct p q (inl (known, number_is, c)) (inl (also_known, other_is, d)) =
+one_rest declared before (placed ∷ row) (a ∷ some) (b ∷ others) all them distinct p q (inl (known, number_is, c, waits)) (inl (also_known, other_is, d, also_waits)) =
     let guards : b.guard ≡ a.guard = q.0.guard ∙ sym p.0.guard in
     let place = distinct a.guard (a.condition - 1) (b.condition - 1) known (subst (λ (g : Formula). HasGuard before g (b.condition - 1)) guards also_known) in
     let same = same_block (scope_of declared placed.method) placed.number placed.block a b p.0 q.0 (number_is ∙ ap (λ k. k + 1) place ∙ sym other_is) in
     both_longer a b some others all them same (one_rest declared before row some others all them distinct p.1 q.1 c d)
-one_rest declared before (placed ∷ row) (a ∷ some) (b ∷ others) all them distinct p q (inl (known, number_is, c)) (inr (none, other_is, d)) =
+one_rest declared before (placed ∷ row) (a ∷ some) (b ∷ others) all them distinct p q (inl (known, number_is, c, waits)) (inr (inl (none, other_is, d, also_waits))) =
     let guards : a.guard ≡ b.guard = p.0.guard ∙ sym q.0.guard in
     absurd (none_at before b.guard none (a.condition - 1) (subst (λ (g : Formula). HasGuard before g (a.condition - 1)) guards known))
-one_rest declared before (placed ∷ row) (a ∷ some) (b ∷ others) all them distinct p q (inr (none, number_is, c)) (inl (known, other_is, d)) =
+one_rest declared before (placed ∷ row) (a ∷ some) (b ∷ others) all them distinct p q (inl (known, number_is, c, waits)) (inr (inr (zero_is, asserts, d))) = absurd (true≢false (sym asserts ∙ waits))
+one_rest declared before (placed ∷ row) (a ∷ some) (b ∷ others) all them distinct p q (inr (inl (none, number_is, c, waits))) (inl (known, other_is, d, also_waits)) =
     let guards : b.guard ≡ a.guard = q.0.guard ∙ sym p.0.guard in
     absurd (none_at before a.guard none (b.condition - 1) (subst (λ (g : Formula). HasGuard before g (b.condition - 1)) guards known))
-one_rest declared before (placed ∷ row) (a ∷ some) (b ∷ others) all them distinct p q (inr (none, number_is, c)) (inr (also_none, other_is, d)) =
+one_rest declared before (placed ∷ row) (a ∷ some) (b ∷ others) all them distinct p q (inr (inl (none, number_is, c, waits))) (inr (inl (also_none, other_is, d, also_waits))) =
     let same = same_block (scope_of declared placed.method) placed.number placed.block a b p.0 q.0 (number_is ∙ sym other_is) in
     let longer = distinct_push before (condition_of a placed.block) distinct none in
     let rest = subst (λ (block : Block). AreConditions (before ++ condition_of block placed.block ∷ []) row others them) (sym same) d in
     both_longer a b some others all them same (one_rest declared (before ++ condition_of a placed.block ∷ []) row some others all them longer p.1 q.1 c rest)
+one_rest declared before (placed ∷ row) (a ∷ some) (b ∷ others) all them distinct p q (inr (inl (none, number_is, c, waits))) (inr (inr (zero_is, asserts, d))) = absurd (true≢false (sym asserts ∙ waits))
+one_rest declared before (placed ∷ row) (a ∷ some) (b ∷ others) all them distinct p q (inr (inr (zero_is, asserts, c))) (inl (known, other_is, d, waits)) = absurd (true≢false (sym asserts ∙ waits))
+one_rest declared before (placed ∷ row) (a ∷ some) (b ∷ others) all them distinct p q (inr (inr (zero_is, asserts, c))) (inr (inl (none, other_is, d, waits))) = absurd (true≢false (sym asserts ∙ waits))
+one_rest declared before (placed ∷ row) (a ∷ some) (b ∷ others) all them distinct p q (inr (inr (zero_is, asserts, c))) (inr (inr (also_zero, also_asserts, d))) =
+    let same = same_block (scope_of declared placed.method) placed.number placed.block a b p.0 q.0 (zero_is ∙ sym also_zero) in
+    both_longer a b some others all them same (one_rest declared before row some others all them distinct p.1 q.1 c d)
 
 -- ---- monitors
 

@@ -53,15 +53,16 @@ BodiesStep tree monitor whole =
     → MayRun is block state inputs → CallSteps tree placed is block state inputs
 
 -- A call of the function that is printed of a block's guard answers whether the guard is true: with
--- the inputs where the guard reads any, and else without them. This is the law `printed_tests_hold`
--- of `emit_numbers` for one monitor.
+-- the inputs where the function takes them, as of a guard that reads any, and else without them.
+-- This is the law `printed_tests_hold` of `emit_numbers` for one monitor.
 abbrev pub TestsHold : MonitorTree → MonitorParts → Type 0
 TestsHold tree monitor =
-    (index : ℕ) (placed : PlacedBlock) (block : Block) (state : List Value) (inputs : Inputs)
+    (index : ℕ) (placed : PlacedBlock) (block : Block) (takes : Bool) (state : List Value)
+    (inputs : Inputs)
     → slice_get (blocks_from 0 tree.methods) index ≡ Some placed
     → slice_get monitor.blocks index ≡ Some block
-    → printed_test tree placed (reads_inputs block.guard) state inputs
-    ≡ guard_truth monitor state index inputs
+    → (takes ≡ false → reads_inputs block.guard ≡ false)
+    → printed_test tree placed takes state inputs ≡ guard_truth monitor state index inputs
 
 -- A function that is printed without inputs serves all blocks of its condition, and the tests of
 -- notes on it: it answers whether the condition's guard is true. This is that law's other part.
@@ -72,7 +73,7 @@ TestsAreShared tree monitor =
     → slice_get (blocks_from 0 tree.methods) index ≡ Some placed
     → slice_get monitor.blocks index ≡ Some block
     → slice_get monitor.blocks other ≡ Some waiting
-    → waiting.condition ≡ block.condition
+    → 1 ≤ block.condition → waiting.condition ≡ block.condition
     → reads_inputs block.guard ≡ false
     → (printed_test tree placed false state inputs
     ≡ condition_truth monitor state block.condition)

@@ -2,6 +2,7 @@
 -- words, and how readers are put together.
 use Rattle.std.specs.Prelude.{◌≡◌, ℕ, zero, suc, Bool, true, false, ◌-◌, List, [], ◌∷◌, length}
 use Rattle.std.specs.Prelude.{drop, All, Option, Some, None, Result, Ok, Err, ◌==◌, if◌then◌else◌}
+use Rattle.std.specs.Str.{bytes_eq}
 use Rattle.lang_base.specs.SourceFaults.{fault_at}
 use Rattle.lang_base.specs.declared.kind.Kind.{Kind}
 use Rattle.lang_base.specs.declared.kind.Kind.TheVariants as inputs
@@ -173,6 +174,14 @@ ident_at (mark k at ∷ rest) = Err (suc (length rest))
 ident_at (ident name at ∷ rest) = Ok (record { at = at; name = name }, rest)
 ident_at (numeral value at ∷ rest) = Err (suc (length rest))
 
+-- a name of these letters, with its offset
+unfoldable pub spelled_at : List ℕ → List Word → Read ℕ
+spelled_at letters [] = Err 0
+spelled_at letters (mark k at ∷ rest) = Err (suc (length rest))
+spelled_at letters (ident name at ∷ rest) =
+    if bytes_eq name letters then Ok (at, rest) else Err (suc (length rest))
+spelled_at letters (numeral value at ∷ rest) = Err (suc (length rest))
+
 -- NUM
 unfoldable pub numeral_at : List Word → Read PlacedNumber
 numeral_at [] = Err 0
@@ -255,6 +264,13 @@ begins_ident [] = false
 begins_ident (mark k at ∷ rest) = false
 begins_ident (ident name at ∷ rest) = true
 begins_ident (numeral value at ∷ rest) = false
+
+-- does a name of these letters come next?
+unfoldable pub begins_spelled : List ℕ → List Word → Bool
+begins_spelled letters [] = false
+begins_spelled letters (mark k at ∷ rest) = false
+begins_spelled letters (ident name at ∷ rest) = bytes_eq name letters
+begins_spelled letters (numeral value at ∷ rest) = false
 
 -- ---- words that are trees by themselves
 

@@ -3,15 +3,16 @@
 ghost use Rattle.std.specs.Prelude.{◌≡◌, ◌==◌, ℕ, List, length};
 ghost use Rattle.lang_tokens.specs.Words.{words};
 ghost use Rattle.lang_cursor.specs.Reading.{AreTokens, IsMarkKind, atom_at, begins};
-ghost use Rattle.lang_cursor.specs.Reading.{begins_ident, begins_listed, ident_at, kind_of};
-ghost use Rattle.lang_cursor.specs.Reading.{listed_at, mark_at, minus_of, numeral_at, op_of};
-ghost use Rattle.lang_cursor.specs.Reading.{placed_at, plain_argument_at, truth_of};
+ghost use Rattle.lang_cursor.specs.Reading.{begins_ident, begins_listed, begins_spelled, ident_at};
+ghost use Rattle.lang_cursor.specs.Reading.{kind_of, listed_at, mark_at, minus_of, numeral_at};
+ghost use Rattle.lang_cursor.specs.Reading.{op_of, placed_at, plain_argument_at, spelled_at};
+ghost use Rattle.lang_cursor.specs.Reading.{truth_of};
 ghost use Rattle.lang_cursor.specs.Takes.{Takes};
 
 use super::fault::{Stop, stop_before};
 use super::word::{
-    PlacedName, PlacedNumber, is_kind, kind_of, minus_of, name_of, named, number, number_of, op_of,
-    plain_argument, truth, truth_argument, truth_of,
+    PlacedName, PlacedNumber, is_kind, is_spelled, kind_of, minus_of, name_of, named, number,
+    number_of, op_of, plain_argument, truth, truth_argument, truth_of,
 };
 use lang_base::Kind;
 use lang_tokens::{Token, TokenKind};
@@ -115,6 +116,20 @@ impl<'a> Cursor<'a> {
         }
     }
 
+    /// Whether an identifier of these letters comes next.
+    #[tactic(auto, unfolding(crate::specs::Reading::begins_spelled))]
+    pub fn begins_spelled(&self, letters: &[u8]) -> bool
+        ensures { result ≡ begins_spelled letters.now self.now }
+    {
+        match self.tokens {
+            [first, ..] => match first.kind {
+                TokenKind::Ident => is_spelled(self.bytes, first, letters),
+                _ => false,
+            },
+            _ => false,
+        }
+    }
+
     /// Whether a sign of a comparison comes next.
     #[tactic(auto, unfolding(crate::specs::Reading::begins_listed))]
     pub fn begins_op(&self) -> bool
@@ -188,6 +203,26 @@ impl<'a> Cursor<'a> {
                     let name = name_of(alloc, self.bytes, first)?;
                     self.tokens = rest;
                     Ok(PlacedName { at: first.at, name })
+                }
+                _ => Err(stop_before(self.tokens)),
+            },
+            _ => Err(stop_before(self.tokens)),
+        }
+    }
+
+    /// An identifier of these letters, with its offset.
+    #[tactic(auto, unfolding(crate::specs::Reading::spelled_at, crate::specs::Reading::AreTokens))]
+    pub fn spelled(&mut self, letters: &[u8]) -> Result<u32, Stop>
+        ensures { Takes result self.new (spelled_at letters.now self.old) }
+    {
+        match self.tokens {
+            [first, rest @ ..] => match first.kind {
+                TokenKind::Ident => {
+                    if !is_spelled(self.bytes, first, letters) {
+                        return Err(stop_before(self.tokens));
+                    }
+                    self.tokens = rest;
+                    Ok(first.at)
                 }
                 _ => Err(stop_before(self.tokens)),
             },

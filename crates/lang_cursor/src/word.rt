@@ -1,6 +1,7 @@
 //! What single tokens say: a name, a number, or one of a table of keywords and signs.
 
 ghost use Rattle.std.specs.Prelude.{◌≡◌, IfOk};
+ghost use Rattle.std.specs.Str.{bytes_eq};
 ghost use Rattle.lang_tokens.specs.Spelling.{IsDecimal, text_of};
 ghost use Rattle.lang_tokens.specs.Words.{decimal_value};
 ghost use Rattle.lang_cursor.specs.Arguments.{plain};
@@ -96,6 +97,13 @@ pub fn name_of(alloc: Global, bytes: &[u8], token: &Token) -> Result<Name, Alloc
     ensures { IfOk result (λ name. name ≡ text_of bytes.now token.now) }
 {
     Ok(Name::of(Vec::from_slice(alloc, text_of(bytes, token))?))
+}
+
+/// Whether a token's text is these letters.
+pub fn is_spelled(bytes: &[u8], token: &Token, letters: &[u8]) -> bool
+    ensures { result ≡ bytes_eq (text_of bytes.now token.now) letters.now }
+{
+    text_of(bytes, token) == letters
 }
 
 /// The number that a token's text stands for.

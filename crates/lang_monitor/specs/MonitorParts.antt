@@ -1,5 +1,5 @@
 -- What contracts see of a monitor, and the rule that each monitor meets.
-use Rattle.std.specs.Prelude.{◌≡◌, ◌≢◌, ℕ, ◌+◌, ◌-◌, ◌^◌, ◌≤◌, ◌<◌, Bool, true, false, ◌&&◌}
+use Rattle.std.specs.Prelude.{◌≡◌, ◌≢◌, ◌↔◌, ℕ, ◌+◌, ◌-◌, ◌^◌, ◌≤◌, ◌<◌, Bool, true, false, ◌&&◌}
 use Rattle.std.specs.Prelude.{nat_lt, List, [], ◌∷◌, ◌++◌, length, All, AllPairs, map, Option}
 use Rattle.std.specs.Prelude.{Some, None, IsSomeAnd, slice_get, if◌then◌else◌}
 use Rattle.std.specs.List.{list_all}
@@ -146,6 +146,11 @@ abbrev pub locals_in : Option Method → List Value
 locals_in None = []
 locals_in (Some method) = method.locals
 
+-- whether a method asserts
+abbrev pub asserts_in : Option Method → Bool
+asserts_in None = false
+asserts_in (Some method) = method.asserts
+
 -- the number of a method's first block, and how many it has
 abbrev pub first_in : Option Method → ℕ
 first_in None = 0
@@ -168,19 +173,21 @@ method_places monitor method = record {
 }
 
 -- the block is one of this method, at this place among its blocks; only the last one answers a
--- result
+-- result, and it has no condition exactly where the method asserts
 pub record IsBlockOf (monitor : MonitorParts) (number place : ℕ) (method : Method) (block : Block) :
     Type 0 where
   pub of : block.method ≡ number
   pub fits : fits_block (method_places monitor number) block ≡ true
   pub answers : place + 1 < method.count → block.result ≡ rets.Nothing
+  pub waits : (block.condition ≡ 0) ↔ (method.asserts ≡ true)
 
--- a method has at most 6 inputs and 4 locals, and one to four blocks
+-- a method has at most 6 inputs and 4 locals, and one to four blocks; one that asserts has one
 pub record IsMethod (monitor : MonitorParts) (number : ℕ) (method : Method) : Type 0 where
   pub few_inputs : length method.inputs ≤ INPUTS
   pub few_locals : length method.locals ≤ LOCALS
   pub some : 1 ≤ method.count
   pub few : method.count ≤ METHOD_BLOCKS
+  pub alone : method.asserts ≡ true → method.count ≡ 1
   pub blocks : (place : ℕ) → place < method.count
       → IsSomeAnd (slice_get monitor.blocks (method.first + place))
       (λ block. IsBlockOf monitor number place method block)

@@ -1,20 +1,26 @@
 //! What follows from the definitions alone.
 
-ghost use Rattle.std.specs.Prelude.{◌≡◌, ◌↔◌, ℕ, ◌<◌, ◌≤◌, All, Any, length};
+ghost use Rattle.std.specs.Prelude.{◌≡◌, ◌↔◌, ℕ, ◌<◌, ◌≤◌, true, All, Any, Some, length, slice_get};
+ghost use Rattle.lang_monitor.specs.declared.monitor.Block.{Block};
 ghost use Rattle.lang_monitor.specs.Conditions.{IsFirstBlock, ShareCondition};
-ghost use Rattle.lang_monitor.specs.MonitorParts.{MonitorParts, IsMonitor};
+ghost use Rattle.lang_monitor.specs.MonitorParts.{MonitorParts, IsMonitor, asserts_in};
 
-/// Conditions are the classes of blocks with equal guards, and are numbered from 1 by their first
-/// blocks: two blocks have one condition exactly where their guards are equal, the numbers up to
-/// the number of conditions are those that blocks have, and of two conditions the one with the
-/// lower number is the one whose first block comes first.
+/// Conditions are the classes of the blocks that wait and have equal guards, and are numbered from
+/// 1 by their first blocks: two such blocks have one condition exactly where their guards are
+/// equal, the numbers from 1 to the number of conditions are those that blocks have, of two
+/// conditions the one with the lower number is the one whose first block comes first, and a block
+/// has no condition, but the number 0, exactly where its method asserts.
 pub fn conditions_are_classes()
     ensures classes { (monitor : MonitorParts) → IsMonitor monitor
         → All (λ block. All (ShareCondition block) monitor.blocks) monitor.blocks }
-    ensures numbers { (monitor : MonitorParts) (number : ℕ) → IsMonitor monitor
-        → ((1 ≤ number) × (number ≤ length monitor.conditions))
+    ensures numbers { (monitor : MonitorParts) (number : ℕ) → IsMonitor monitor → 1 ≤ number
+        → (number ≤ length monitor.conditions)
         ↔ Any (λ block. block.condition ≡ number) monitor.blocks }
     ensures order { (monitor : MonitorParts) (number other first later : ℕ) → IsMonitor monitor
+        → 1 ≤ number → 1 ≤ other
         → IsFirstBlock monitor.blocks number first → IsFirstBlock monitor.blocks other later
         → (number < other) ↔ (first < later) }
+    ensures asserts { (monitor : MonitorParts) (number : ℕ) (block : Block) → IsMonitor monitor
+        → slice_get monitor.blocks number ≡ Some block
+        → (block.condition ≡ 0) ↔ (asserts_in (slice_get monitor.methods block.method) ≡ true) }
 {}

@@ -16,12 +16,14 @@ pub struct Field {
 }
 
 /// A method: the kinds of its inputs, the values of its locals at the start of a call, and its
-/// blocks, `count` of them from number `first` on.
+/// blocks, `count` of them from number `first` on. A call of one that asserts never waits: where
+/// the guard of its only block is false it is refused.
 #[derive(Debug, Drop)]
 pub struct Method {
     pub name: Name,
     pub inputs: Seq<Kind>,
     pub locals: Seq<Value>,
+    pub asserts: bool,
     pub first: u32,
     pub count: u32,
 }
@@ -47,7 +49,8 @@ pub enum Ret {
 }
 
 /// A block of a method: it waits until the guard holds, runs the body and answers the result. Its
-/// method has a number, from 0, and its condition one, from 1.
+/// method has a number, from 0, and its condition one, from 1, or 0 where its method asserts: there
+/// nobody waits for it, and no condition has this number.
 #[derive(Debug, Drop)]
 pub struct Block {
     pub method: u32,
@@ -69,8 +72,8 @@ pub struct Condition {
 /// A monitor: at most 16 fields and 16 methods of at most 6 inputs and 4 locals, with distinct
 /// names, each method of one to four blocks, in whose forms and formulas each place is a field's,
 /// an input's or a local's of the right kind, with one condition for each guard
-/// (`specs/MonitorParts`, `IsMonitor`). The checker makes it from a tree, and each call hands on
-/// the rule.
+/// that is waited for (`specs/MonitorParts`, `IsMonitor`). The checker makes it from a tree, and
+/// each call hands on the rule.
 #[derive(Debug, Drop)]
 pub struct Monitor {
     name: Name,

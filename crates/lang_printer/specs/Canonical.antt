@@ -147,28 +147,33 @@ input_texts (input ∷ more) = input_text input ∷ input_texts more
 abbrev pub local_text : Decl → List ℕ
 local_text local = codes "    local " ++ declared_text local
 
--- a block from its `waituntil` on, by the depth where it stands
-abbrev pub guarded_text : ℕ → BlockTree → List ℕ
-guarded_text depth block =
-    codes "waituntil (" ++ expression_text block.guard ++ codes ") {\n"
+-- what stands before the guard of a block, by whether its method asserts
+abbrev pub opening_text : Bool → List ℕ
+opening_text true = codes "asserts ("
+opening_text false = codes "waituntil ("
+
+-- a block after what opens it, by the depth where it stands
+abbrev pub guarded_text : List ℕ → ℕ → BlockTree → List ℕ
+guarded_text opening depth block =
+    opening ++ expression_text block.guard ++ codes ") {\n"
     ++ flat_map (λ statement. statement_text statement (depth + 1)) block.body ++ indent depth
     ++ codes "}\n"
 
 -- locals and blocks on lines of their own
-abbrev pub lines_text : List Decl → List BlockTree → List ℕ
-lines_text locals blocks =
+abbrev pub lines_text : List ℕ → List Decl → List BlockTree → List ℕ
+lines_text opening locals blocks =
     codes "\n" ++ flat_map local_text locals
-    ++ flat_map (λ block. codes "    " ++ guarded_text 2 block) blocks
+    ++ flat_map (λ block. codes "    " ++ guarded_text opening 2 block) blocks
 
 -- the locals and blocks of a method: one block without locals goes on in the method's line
-abbrev pub blocks_text : List Decl → List BlockTree → List ℕ
-blocks_text [] (block ∷ []) = codes " " ++ guarded_text 1 block
-blocks_text locals blocks = lines_text locals blocks
+abbrev pub blocks_text : List ℕ → List Decl → List BlockTree → List ℕ
+blocks_text opening [] (block ∷ []) = codes " " ++ guarded_text opening 1 block
+blocks_text opening locals blocks = lines_text opening locals blocks
 
 abbrev pub method_text : MethodTree → List ℕ
 method_text method =
     codes "  method " ++ method.name ++ codes "(" ++ joined (codes ", ") (input_texts method.inputs)
-    ++ codes ")" ++ blocks_text method.locals method.blocks
+    ++ codes ")" ++ blocks_text (opening_text method.asserts) method.locals method.blocks
 
 abbrev pub tree_text : MonitorTree → List ℕ
 tree_text tree =

@@ -4,7 +4,7 @@ ghost use Rattle.std.specs.Prelude.{◌≡◌, ◌++◌, codes};
 ghost use Rattle.std.specs.List.{flat_map};
 ghost use Rattle.lang_printer.specs.Canonical.{tree_text, declared_text, guarded_text, lines_text};
 ghost use Rattle.lang_printer.specs.Canonical.{blocks_text, method_text, input_texts, kind_text};
-ghost use Rattle.lang_printer.specs.Canonical.{literal_text, minus_text, joined};
+ghost use Rattle.lang_printer.specs.Canonical.{literal_text, minus_text, opening_text, joined};
 ghost use Rattle.lang_printer.specs.Depths.{levels};
 ghost use Rattle.base_io.specs.Writing.{Wrote};
 
@@ -125,59 +125,91 @@ fn write_method<S: Sink>(method: &MethodTree, out: &mut S) -> Result<(), SinkFai
     write_pieces(&[b"  method ", method.name.bytes(), b"("], out)?;
     write_inputs(method.inputs.items(), out)?;
     write_piece(b")", out)?;
-    write_blocks(method.locals.items(), method.blocks.items(), out)
+    let opening = opening_bytes(method.asserts);
+    write_blocks(opening, method.locals.items(), method.blocks.items(), out)
+}
+
+// What stands before a guard.
+fn opening_bytes(asserts: bool) -> &'static [u8]
+    ensures { result.now ≡ opening_text asserts }
+{
+    if asserts {
+        b"asserts ("
+    } else {
+        b"waituntil ("
+    }
 }
 
 // The locals and blocks of a method. One block without locals goes on in the method's line.
 fn write_blocks<S: Sink>(
+    opening: &[u8],
     locals: &[Decl],
     blocks: &[BlockTree],
     out: &mut S,
 ) -> Result<(), SinkFailed>
     ensures { Wrote (S.seen out.old) (S.seen out.new) result
-        (blocks_text locals.now blocks.now) }
+        (blocks_text opening.now locals.now blocks.now) }
 {
     if locals.is_empty() && blocks.len() == 1 {
-        return write_guarded(b" ", &blocks[0], &Depth::Below(&Depth::Margin), out);
+        return write_guarded(
+            b" ",
+            opening,
+            &blocks[0],
+            &Depth::Below(&Depth::Margin),
+            out,
+        );
     }
-    write_lines(locals, blocks, out)
+    write_lines(opening, locals, blocks, out)
 }
 
 // Locals and blocks on lines of their own.
 fn write_lines<S: Sink>(
+    opening: &[u8],
     locals: &[Decl],
     blocks: &[BlockTree],
     out: &mut S,
 ) -> Result<(), SinkFailed>
     ensures { Wrote (S.seen out.old) (S.seen out.new) result
-        (lines_text locals.now blocks.now) }
+        (lines_text opening.now locals.now blocks.now) }
 {
     write_piece(b"\n", out)?;
     write_declarations(b"    local ", locals, out)?;
-    write_each(blocks, &Depth::Below(&Depth::Below(&Depth::Margin)), out)
+    write_each(
+        opening,
+        blocks,
+        &Depth::Below(&Depth::Below(&Depth::Margin)),
+        out,
+    )
 }
 
-fn write_each<S: Sink>(blocks: &[BlockTree], depth: &Depth, out: &mut S) -> Result<(), SinkFailed>
+fn write_each<S: Sink>(
+    opening: &[u8],
+    blocks: &[BlockTree],
+    depth: &Depth,
+    out: &mut S,
+) -> Result<(), SinkFailed>
     ensures { Wrote (S.seen out.old) (S.seen out.new) result
-        (flat_map (λ block. codes "    " ++ guarded_text (levels depth.now) block) blocks.now) }
+        (flat_map (λ block. codes "    " ++ guarded_text opening.now (levels depth.now) block)
+        blocks.now) }
 {
     for block in blocks {
-        write_guarded(b"    ", block, depth, out)?;
+        write_guarded(b"    ", opening, block, depth, out)?;
     }
     Ok(())
 }
 
-// A block at this depth, after what stands before it in its line.
-fn write_guarded<S: Sink>(
-    lead: &[u8],
+// A block at this depth, after what stands before it in its line and what opens it.
+fn write_guarded<'a, S: Sink>(
+    lead: &'a [u8],
+    opening: &'a [u8],
     block: &BlockTree,
     depth: &Depth,
     out: &mut S,
 ) -> Result<(), SinkFailed>
     ensures { Wrote (S.seen out.old) (S.seen out.new) result
-        (lead.now ++ guarded_text (levels depth.now) block.now) }
+        (lead.now ++ guarded_text opening.now (levels depth.now) block.now) }
 {
-    write_around(&[lead, b"waituntil ("], &block.guard, b") {\n", out)?;
+    write_around(&[lead, opening], &block.guard, b") {\n", out)?;
     write_block(block.body.items(), depth, out)?;
     write_piece(b"\n", out)
 }

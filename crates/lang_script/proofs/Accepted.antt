@@ -1,7 +1,7 @@
 -- What follows where a tree breaks no rule: its scripts fit the monitor and keep the rule of
 -- scripts.
 use Rattle.std.proofs.Common.{◌≡◌, ◌≢◌, ◌==◌, ℕ, zero, suc, ◌+◌, ◌<◌, ◌≤◌, Bool, true, false, List, [], ◌∷◌, ◌++◌, length, take, drop, get_or, map, replicate, All, refl, sym, ap, subst, ◌∙◌, arith, inl, inr, Option, Some, None, append_assoc}
-use Rattle.std.specs.Prelude.{if◌then◌else◌, nat_lt, sum_by, slice_get, unwrap_or, position, zip}
+use Rattle.std.specs.Prelude.{◌||◌, if◌then◌else◌, nat_lt, sum_by, slice_get, unwrap_or, position, zip}
 use Rattle.std.specs.List.{AllPairs, Contains, flat_map}
 use Rattle.std.specs.Str.{bytes_eq}
 use Rattle.std.proofs.lemmas.Bool.{cases_Bool}
@@ -23,7 +23,7 @@ use Rattle.lang_tree.specs.declared.tree.ClientTree.{ClientTree}
 use Rattle.lang_tree.specs.declared.tree.ClientsTree.{ClientsTree}
 use Rattle.lang_tree.specs.Names.{client_names, item_names, names_in_clients}
 use Rattle.lang_monitor.specs.declared.monitor.Method.{Method}
-use Rattle.lang_monitor.specs.MonitorParts.{MonitorParts, AreOfKinds}
+use Rattle.lang_monitor.specs.MonitorParts.{MonitorParts, AreOfKinds, asserts_in}
 use Rattle.machine_implicit.specs.declared.script.Call.{Call as ScriptCall}
 use Rattle.machine_implicit.specs.declared.script.Client.{Client}
 use Rattle.machine_implicit.specs.Scripted.{AreClients, FitsCall, FitsScripts}
@@ -111,14 +111,18 @@ named_within : (methods : List Method) (name : List ℕ) (method : ℕ) → posi
 named_within [] name method found = absurd cc
 named_within (one ∷ more) name method found = (position-Some (λ m. bytes_eq m.name name) (one ∷ more) method one found).0
 
+or_true : (b : Bool) → (b || true) ≡ true
+or_true true = refl
+or_true false = refl
+
 call_fits : (monitor : MonitorParts) (tries : Bool) (call : PlacedCall) → call_faults monitor call ≡ [] → FitsCall monitor (call_of monitor tries call.name call.arguments)
 call_fits monitor tries call none = by_named (method_named monitor call.name) refl (no_front (method_faults monitor call.name_at call.arguments (method_named monitor call.name)) (flat_map number_faults call.arguments) none)
   where
     by_named : (named : Option ℕ) → method_named monitor call.name ≡ named → method_faults monitor call.name_at call.arguments named ≡ [] → FitsCall monitor (call_of monitor tries call.name call.arguments)
     by_named None unknown found = absurd cc
     by_named (Some method) calls_it found =
-        subst (λ (n : Option ℕ). FitsCall monitor (record { method = unwrap_or n 0; inputs = map value_of call.arguments; tries = tries })) (sym calls_it)
-        (record { method = named_within monitor.methods call.name method calls_it; inputs = arguments_fit (inputs_of monitor method) call.name_at call.arguments found })
+        subst (λ (n : Option ℕ). FitsCall monitor (record { method = unwrap_or n 0; inputs = map value_of call.arguments; tries = tries || asserts_in (slice_get monitor.methods (unwrap_or n 0)) })) (sym calls_it)
+        (record { method = named_within monitor.methods call.name method calls_it; inputs = arguments_fit (inputs_of monitor method) call.name_at call.arguments found; tries = λ asserts. ap (λ b. tries || b) asserts ∙ or_true tries })
 
 -- ---- items
 

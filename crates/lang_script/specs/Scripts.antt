@@ -1,6 +1,6 @@
 -- The scripts that the tree of a client file stands for: its calls, with each `repeat` written out.
 use Rattle.std.specs.Prelude.{◌≡◌, ℕ, ◌*◌, ℤ, pos, neg_ℤ, Bool, if◌then◌else◌, List, [], ◌∷◌, map}
-use Rattle.std.specs.Prelude.{replicate, sum, Option, position, unwrap_or}
+use Rattle.std.specs.Prelude.{◌||◌, replicate, slice_get, sum, Option, position, unwrap_or}
 use Rattle.std.specs.List.{flat_map}
 use Rattle.std.specs.Str.{bytes_eq}
 use Rattle.lang_tree.specs.declared.tree.Lit.{Lit}
@@ -13,7 +13,7 @@ use Rattle.lang_tree.specs.declared.tree.ClientTree.{ClientTree}
 use Rattle.lang_tree.specs.declared.tree.ClientsTree.{ClientsTree}
 use Rattle.lang_base.specs.declared.value.Value.{Value}
 use Rattle.lang_base.specs.declared.value.Value.TheVariants as values
-use Rattle.lang_monitor.specs.MonitorParts.{MonitorParts}
+use Rattle.lang_monitor.specs.MonitorParts.{MonitorParts, asserts_in}
 use Rattle.machine_implicit.specs.declared.script.Call.{Call as ScriptCall}
 use Rattle.machine_implicit.specs.declared.script.Client.{Client}
 
@@ -28,12 +28,17 @@ value_of (args.Bool at value) = values.Bool value
 abbrev pub method_named : MonitorParts → List ℕ → Option ℕ
 method_named monitor name = position (λ method. bytes_eq method.name name) monitor.methods
 
--- the call of the method of this name with these arguments, and whether it tries
+-- the number of that method, where there is one
+abbrev pub method_called : MonitorParts → List ℕ → ℕ
+method_called monitor name = unwrap_or (method_named monitor name) 0
+
+-- the call of the method of this name with these arguments: it tries where its file says so, and
+-- where its method asserts
 abbrev pub call_of : MonitorParts → Bool → List ℕ → List Arg → ScriptCall
 call_of monitor tries name arguments = record {
-  method = unwrap_or (method_named monitor name) 0;
+  method = method_called monitor name;
   inputs = map value_of arguments;
-  tries = tries;
+  tries = tries || asserts_in (slice_get monitor.methods (method_called monitor name));
 }
 
 -- one list after the other

@@ -1,7 +1,8 @@
 //! The scripts of a tree that breaks no rule.
 
-ghost use Rattle.std.specs.Prelude.{◌≡◌, [], ◌∷◌, ◌++◌, All, IfOk, map, replicate};
+ghost use Rattle.std.specs.Prelude.{◌≡◌, [], ◌∷◌, ◌++◌, ◌||◌, All, IfOk, map, replicate, slice_get};
 ghost use Rattle.std.specs.List.{flat_map};
+ghost use Rattle.lang_monitor.specs.MonitorParts.{asserts_in};
 ghost use Rattle.lang_script.specs.Scripts.{call_of, calls_of_item, client_of, joined, value_of};
 ghost use Rattle.lang_script.specs.inner.Making.{AreSmallItems, IsSmallArgument, IsSmallItem};
 
@@ -81,12 +82,31 @@ fn one_call(
         made.items ≡ call_of monitor.now tries name.now arguments.now ∷ []) }
 {
     let mut made = Vec::new(alloc);
+    let method = method_named(monitor, name).unwrap_or(0);
     made.push(Call {
-        method: method_named(monitor, name).unwrap_or(0),
+        method,
         inputs: Seq::of(values_of(alloc, arguments)?),
-        tries,
+        tries: tries_at(monitor, tries, method),
     })?;
     Ok(made)
+}
+
+/// Whether a call of the method of this number tries: where its file says so, and where the method
+/// asserts.
+fn tries_at(monitor: &Monitor, tries: bool, method: u32) -> bool
+    ensures { result ≡ (tries || asserts_in (slice_get monitor.now.methods method)) }
+{
+    tries || asserts(monitor, method)
+}
+
+/// Whether the method of this number asserts.
+fn asserts(monitor: &Monitor, method: u32) -> bool
+    ensures { result ≡ asserts_in (slice_get monitor.now.methods method) }
+{
+    match monitor.methods().get(method as usize) {
+        Some(method) => method.asserts,
+        None => false,
+    }
 }
 
 fn values_of(alloc: Global, arguments: &[Arg]) -> Result<Vec<Value>, AllocError>

@@ -1,6 +1,6 @@
 -- The canonical words of a monitor file, whatever their offsets, derive the same tree but for
 -- offsets.
-use Rattle.std.proofs.Common.{◌≡◌, ℕ, Bool, true, false, List, [], ◌∷◌, ◌++◌, map, refl, ap, ◌∙◌, append_assoc}
+use Rattle.std.proofs.Common.{◌≡◌, ℕ, Bool, true, false, List, [], ◌∷◌, ◌++◌, map, refl, ap, ◌∙◌, append_assoc, append-nil}
 use Rattle.std.specs.List.{flat_map}
 use Rattle.lang_base.specs.Limits.{LEVELS}
 use Rattle.lang_tokens.specs.declared.token.TokenKind.{TokenKind}
@@ -15,10 +15,10 @@ use Rattle.lang_tree.specs.declared.tree.BlockTree.{BlockTree}
 use Rattle.lang_tree.specs.declared.tree.MethodTree.{MethodTree}
 use Rattle.lang_tree.specs.declared.tree.MonitorTree.{MonitorTree}
 use Rattle.lang_tokens.specs.Words.{Word, ident, numeral, mark}
-use Rattle.lang_syntax.specs.Grammar.{Rule, ◌⌢◌, Each, OneOrMore, truth_word, kind_word, IsMarkAt, IsMark, IsIdent, IsNumeral, IsExpression, IsBlock, IsStatement, after_minus, IsLiteral, IsDeclaration, IsInput, AreInputs, IsLocal, IsGuarded, IsMethod, IsMonitorFile}
+use Rattle.lang_syntax.specs.Grammar.{Rule, ◌⌢◌, Each, truth_word, kind_word, IsMarkAt, IsMark, IsIdent, IsNumeral, IsExpression, IsBlock, IsStatement, after_minus, IsLiteral, IsDeclaration, IsInput, AreInputs, IsLocal, IsGuarded, ASSERTS, IsAsserted, Single, AreBlocks, IsMethod, IsMonitorFile}
 use Rattle.lang_tree.specs.Offsets.{unplaced_expression, unplaced_statement, unplaced_literal, unplaced_declaration, unplaced_input, unplaced_block, unplaced_method, unplaced}
-use Rattle.lang_syntax.proofs.CanonicalWords.{bare, expression_words, statement_words, minus_words, literal_words, declaration_words, input_words, inputs_words, local_words, guarded_words, method_words, tree_words}
-use Rattle.lang_syntax.proofs.PrintedWords.{Again, each_again, more_again, no_words, alone, cut_mark, cut_mark_at, cut_ident, cut_numeral, cut_tree, last_mark}
+use Rattle.lang_syntax.proofs.CanonicalWords.{bare, expression_words, statement_words, minus_words, literal_words, declaration_words, input_words, inputs_words, local_words, opening_word, guarded_words, method_words, tree_words}
+use Rattle.lang_syntax.proofs.PrintedWords.{Cut, Again, each_again, more_again, no_words, alone, cut_mark, cut_mark_at, cut_ident, cut_numeral, cut_tree, last_mark}
 use Rattle.lang_syntax.proofs.CanonicalExpressions.{expression_again}
 use Rattle.lang_syntax.proofs.CanonicalStatements.{block_words, block_again, statement_again}
 
@@ -120,19 +120,19 @@ inputs_again (first ∷ rest) ws is = λ printed h.
 
 -- ---- methods
 
--- a block by the rules of its guard and its statements
-abbrev IsGuardedBy : Rule Expr → Rule StmtTree → Rule BlockTree
-IsGuardedBy IsGuard IsStatement block =
-    IsMarkAt kinds.KeyWaituntil block.at ⌢ IsMark kinds.OpenParen ⌢ IsGuard block.guard ⌢ IsMark kinds.CloseParen ⌢ IsBlock IsStatement block.body
+-- a block by the rules of the word that opens it, of its guard and of its statements
+abbrev IsBlockBy : Rule ℕ → Rule Expr → Rule StmtTree → Rule BlockTree
+IsBlockBy IsOpening IsGuard IsStatement block =
+    IsOpening block.at ⌢ IsMark kinds.OpenParen ⌢ IsGuard block.guard ⌢ IsMark kinds.CloseParen ⌢ IsBlock IsStatement block.body
 
 -- a block's words from its guard on, grouped from the right
 abbrev from_guard : BlockTree → List Word
 from_guard block = expression_words block.guard ++ (mark kinds.CloseParen 0 ∷ block_words block.body)
 
-regroup_block : (guard body : List Word)
-    → mark kinds.KeyWaituntil 0 ∷ mark kinds.OpenParen 0 ∷ guard ++ mark kinds.CloseParen 0 ∷ mark kinds.OpenBrace 0 ∷ body ++ mark kinds.CloseBrace 0 ∷ []
-    ≡ mark kinds.KeyWaituntil 0 ∷ (mark kinds.OpenParen 0 ∷ (guard ++ (mark kinds.CloseParen 0 ∷ (mark kinds.OpenBrace 0 ∷ (body ++ (mark kinds.CloseBrace 0 ∷ []))))))
-regroup_block guard body = simp append_assoc
+regroup_block : (opening : Word) (guard body : List Word)
+    → opening ∷ mark kinds.OpenParen 0 ∷ guard ++ mark kinds.CloseParen 0 ∷ mark kinds.OpenBrace 0 ∷ body ++ mark kinds.CloseBrace 0 ∷ []
+    ≡ opening ∷ (mark kinds.OpenParen 0 ∷ (guard ++ (mark kinds.CloseParen 0 ∷ (mark kinds.OpenBrace 0 ∷ (body ++ (mark kinds.CloseBrace 0 ∷ []))))))
+regroup_block opening guard body = simp append_assoc
 
 same_block : (at : ℕ) (guard other_guard : Expr) (body other_body : List StmtTree)
     → unplaced_expression guard ≡ unplaced_expression other_guard → map unplaced_statement body ≡ map unplaced_statement other_body
@@ -141,34 +141,57 @@ same_block : (at : ℕ) (guard other_guard : Expr) (body other_body : List StmtT
     unplaced_block one ≡ unplaced_block other)
 same_block at guard other_guard body other_body g b = cc
 
-guarded_again_by : (IsGuard : Rule Expr) (IsStatement : Rule StmtTree)
+block_again_by : (IsOpening : Rule ℕ) (opening : Word) (IsGuard : Rule Expr) (IsStatement : Rule StmtTree)
+    → ((us printed : List Word) → map bare printed ≡ opening ∷ us → (at : ℕ) × Cut (IsOpening at) us printed)
     → ((guard : Expr) (ws : List Word) → IsGuard guard ws → Again IsGuard unplaced_expression (unplaced_expression guard) (expression_words guard))
     → ((statement : StmtTree) (ws : List Word) → IsStatement statement ws → Again IsStatement unplaced_statement (unplaced_statement statement) (statement_words statement))
-    → (block : BlockTree) (ws : List Word) → IsGuardedBy IsGuard IsStatement block ws → Again (IsGuardedBy IsGuard IsStatement) unplaced_block (unplaced_block block) (guarded_words block)
-guarded_again_by IsGuard IsStatement guards inner block ws is = λ printed h.
+    → (block : BlockTree) (ws : List Word) → IsBlockBy IsOpening IsGuard IsStatement block ws
+    → Again (IsBlockBy IsOpening IsGuard IsStatement) unplaced_block (unplaced_block block) (guarded_words opening block)
+block_again_by IsOpening opening IsGuard IsStatement opens guards inner block ws is = λ printed h.
     let at_guard = is.3.3 in
-    let wait = cut_mark_at kinds.KeyWaituntil (mark kinds.OpenParen 0 ∷ from_guard block) printed (h ∙ regroup_block (expression_words block.guard) (flat_map statement_words block.body)) in
-    let opening = cut_mark kinds.OpenParen (from_guard block) wait.1.rest wait.1.bare_rest in
-    let g = cut_tree (guards block.guard at_guard.0 at_guard.2) (mark kinds.CloseParen 0 ∷ block_words block.body) opening.rest opening.bare_rest in
+    let first = opens (mark kinds.OpenParen 0 ∷ from_guard block) printed (h ∙ regroup_block opening (expression_words block.guard) (flat_map statement_words block.body)) in
+    let paren = cut_mark kinds.OpenParen (from_guard block) first.1.rest first.1.bare_rest in
+    let g = cut_tree (guards block.guard at_guard.0 at_guard.2) (mark kinds.CloseParen 0 ∷ block_words block.body) paren.rest paren.bare_rest in
     let closing = cut_mark kinds.CloseParen (block_words block.body) g.cut.rest g.cut.bare_rest in
     let b = block_again IsStatement inner block.body at_guard.3.1 at_guard.3.3 closing.rest closing.bare_rest in
-    let made : BlockTree = record { at = wait.0; guard = g.again; body = b.0 } in
-    let whole : IsGuardedBy IsGuard IsStatement made printed =
-    (wait.1.front, wait.1.rest, wait.1.first, (opening.front, opening.rest, opening.first, (g.cut.front, g.cut.rest, g.cut.first, (closing.front, closing.rest, closing.first, b.1, closing.is), g.cut.is), opening.is), wait.1.is) in
-    (made, whole, same_block wait.0 g.again block.guard b.0 block.body g.same b.2)
+    let made : BlockTree = record { at = first.0; guard = g.again; body = b.0 } in
+    let whole : IsBlockBy IsOpening IsGuard IsStatement made printed =
+    (first.1.front, first.1.rest, first.1.first, (paren.front, paren.rest, paren.first, (g.cut.front, g.cut.rest, g.cut.first, (closing.front, closing.rest, closing.first, b.1, closing.is), g.cut.is), paren.is), first.1.is) in
+    (made, whole, same_block first.0 g.again block.guard b.0 block.body g.same b.2)
 
-guarded_again : (block : BlockTree) (ws : List Word) → IsGuarded block ws → Again IsGuarded unplaced_block (unplaced_block block) (guarded_words block)
-guarded_again block ws is = guarded_again_by (IsExpression LEVELS) (IsStatement LEVELS) (expression_again LEVELS) (statement_again LEVELS) block ws is
+guarded_again : (block : BlockTree) (ws : List Word) → IsGuarded block ws → Again IsGuarded unplaced_block (unplaced_block block) (guarded_words (mark kinds.KeyWaituntil 0) block)
+guarded_again block ws is =
+    block_again_by (λ at. IsMarkAt kinds.KeyWaituntil at) (mark kinds.KeyWaituntil 0) (IsExpression LEVELS) (IsStatement LEVELS) (cut_mark_at kinds.KeyWaituntil) (expression_again LEVELS) (statement_again LEVELS) block ws is
+
+asserted_again : (block : BlockTree) (ws : List Word) → IsAsserted block ws → Again IsAsserted unplaced_block (unplaced_block block) (guarded_words (ident ASSERTS 0) block)
+asserted_again block ws is =
+    block_again_by (λ at. IsIdent ASSERTS at) (ident ASSERTS 0) (IsExpression LEVELS) (IsStatement LEVELS) (cut_ident ASSERTS) (expression_again LEVELS) (statement_again LEVELS) block ws is
+
+single_again : (IsItem : Rule BlockTree) (words : BlockTree → List Word) → ((block : BlockTree) (ws : List Word) → IsItem block ws → Again IsItem unplaced_block (unplaced_block block) (words block))
+    → (blocks : List BlockTree) (ws : List Word) → Single IsItem blocks ws → Again (Single IsItem) (map unplaced_block) (map unplaced_block blocks) (flat_map words blocks)
+single_again IsItem words again [] ws is = absurd is
+single_again IsItem words again (block ∷ []) ws is = λ printed h.
+    let one = again block ws is printed (h ∙ append-nil (words block)) in
+    (one.0 ∷ [], one.1, ap (λ seen. seen ∷ []) one.2)
+single_again IsItem words again (block ∷ (next ∷ more)) ws is = absurd is
+
+blocks_again : (asserts : Bool) (blocks : List BlockTree) (ws : List Word) → AreBlocks asserts blocks ws
+    → Again (AreBlocks asserts) (map unplaced_block) (map unplaced_block blocks) (flat_map (guarded_words (opening_word asserts)) blocks)
+blocks_again false blocks ws is = more_again IsGuarded IsGuarded unplaced_block (guarded_words (mark kinds.KeyWaituntil 0)) guarded_again blocks ws is
+blocks_again true blocks ws is = single_again IsAsserted (guarded_words (ident ASSERTS 0)) asserted_again blocks ws is
 
 -- a method by the rule of its blocks
-abbrev IsMethodBy : Rule BlockTree → Rule MethodTree
-IsMethodBy IsItem method =
+abbrev IsMethodBy : (Bool → Rule (List BlockTree)) → Rule MethodTree
+IsMethodBy AreItems method =
     IsMark kinds.KeyMethod ⌢ IsIdent method.name method.at ⌢ IsMark kinds.OpenParen ⌢ AreInputs method.inputs ⌢ IsMark kinds.CloseParen
-    ⌢ Each IsLocal method.locals ⌢ OneOrMore IsItem method.blocks
+    ⌢ Each IsLocal method.locals ⌢ AreItems method.asserts method.blocks
 
 -- a method's words from its locals on, and from its inputs on, grouped from the right
+abbrev words_of_blocks : MethodTree → List Word
+words_of_blocks method = flat_map (guarded_words (opening_word method.asserts)) method.blocks
+
 abbrev from_locals : MethodTree → List Word
-from_locals method = flat_map local_words method.locals ++ flat_map guarded_words method.blocks
+from_locals method = flat_map local_words method.locals ++ words_of_blocks method
 
 abbrev from_inputs : MethodTree → List Word
 from_inputs method = inputs_words method.inputs ++ (mark kinds.CloseParen 0 ∷ from_locals method)
@@ -178,34 +201,34 @@ regroup_method : (name : List ℕ) (inputs locals blocks : List Word)
     ≡ mark kinds.KeyMethod 0 ∷ (ident name 0 ∷ (mark kinds.OpenParen 0 ∷ (inputs ++ (mark kinds.CloseParen 0 ∷ (locals ++ blocks)))))
 regroup_method name inputs locals blocks = simp append_assoc
 
-same_method : (at : ℕ) (name : List ℕ) (inputs other_inputs : List InputTree) (locals other_locals : List Decl) (blocks other_blocks : List BlockTree)
+same_method : (asserts : Bool) (at : ℕ) (name : List ℕ) (inputs other_inputs : List InputTree) (locals other_locals : List Decl) (blocks other_blocks : List BlockTree)
     → map unplaced_input inputs ≡ map unplaced_input other_inputs → map unplaced_declaration locals ≡ map unplaced_declaration other_locals → map unplaced_block blocks ≡ map unplaced_block other_blocks
-    → (let one : MethodTree = record { at = at; name = name; inputs = inputs; locals = locals; blocks = blocks } in
-    let other : MethodTree = record { at = at; name = name; inputs = other_inputs; locals = other_locals; blocks = other_blocks } in
+    → (let one : MethodTree = record { at = at; name = name; inputs = inputs; locals = locals; asserts = asserts; blocks = blocks } in
+    let other : MethodTree = record { at = at; name = name; inputs = other_inputs; locals = other_locals; asserts = asserts; blocks = other_blocks } in
     unplaced_method one ≡ unplaced_method other)
-same_method at name inputs other_inputs locals other_locals blocks other_blocks i l b = cc
+same_method asserts at name inputs other_inputs locals other_locals blocks other_blocks i l b = cc
 
-method_again_by : (IsItem : Rule BlockTree)
-    → ((block : BlockTree) (ws : List Word) → IsItem block ws → Again IsItem unplaced_block (unplaced_block block) (guarded_words block))
-    → (method : MethodTree) (ws : List Word) → IsMethodBy IsItem method ws → Again (IsMethodBy IsItem) unplaced_method (unplaced_method method) (method_words method)
-method_again_by IsItem again method ws is = λ printed h.
+method_again_by : (AreItems : Bool → Rule (List BlockTree))
+    → ((asserts : Bool) (blocks : List BlockTree) (ws : List Word) → AreItems asserts blocks ws → Again (AreItems asserts) (map unplaced_block) (map unplaced_block blocks) (flat_map (guarded_words (opening_word asserts)) blocks))
+    → (method : MethodTree) (ws : List Word) → IsMethodBy AreItems method ws → Again (IsMethodBy AreItems) unplaced_method (unplaced_method method) (method_words method)
+method_again_by AreItems again method ws is = λ printed h.
     let at_inputs = is.3.3.3 in
     let at_locals = at_inputs.3.3 in
-    let key = cut_mark kinds.KeyMethod (ident method.name 0 ∷ (mark kinds.OpenParen 0 ∷ from_inputs method)) printed (h ∙ regroup_method method.name (inputs_words method.inputs) (flat_map local_words method.locals) (flat_map guarded_words method.blocks)) in
+    let key = cut_mark kinds.KeyMethod (ident method.name 0 ∷ (mark kinds.OpenParen 0 ∷ from_inputs method)) printed (h ∙ regroup_method method.name (inputs_words method.inputs) (flat_map local_words method.locals) (words_of_blocks method)) in
     let named = cut_ident method.name (mark kinds.OpenParen 0 ∷ from_inputs method) key.rest key.bare_rest in
     let opening = cut_mark kinds.OpenParen (from_inputs method) named.1.rest named.1.bare_rest in
     let i = cut_tree (inputs_again method.inputs at_inputs.0 at_inputs.2) (mark kinds.CloseParen 0 ∷ from_locals method) opening.rest opening.bare_rest in
     let closing = cut_mark kinds.CloseParen (from_locals method) i.cut.rest i.cut.bare_rest in
-    let l = cut_tree (each_again IsLocal IsLocal unplaced_declaration local_words local_again method.locals at_locals.0 at_locals.2) (flat_map guarded_words method.blocks) closing.rest closing.bare_rest in
-    let b = more_again IsItem IsItem unplaced_block guarded_words again method.blocks at_locals.1 at_locals.3 l.cut.rest l.cut.bare_rest in
-    let made : MethodTree = record { at = named.0; name = method.name; inputs = i.again; locals = l.again; blocks = b.0 } in
-    let locals_on : (Each IsLocal l.again ⌢ OneOrMore IsItem b.0) closing.rest = (l.cut.front, l.cut.rest, l.cut.first, b.1, l.cut.is) in
-    let whole : IsMethodBy IsItem made printed =
+    let l = cut_tree (each_again IsLocal IsLocal unplaced_declaration local_words local_again method.locals at_locals.0 at_locals.2) (words_of_blocks method) closing.rest closing.bare_rest in
+    let b = again method.asserts method.blocks at_locals.1 at_locals.3 l.cut.rest l.cut.bare_rest in
+    let made : MethodTree = record { at = named.0; name = method.name; inputs = i.again; locals = l.again; asserts = method.asserts; blocks = b.0 } in
+    let locals_on : (Each IsLocal l.again ⌢ AreItems method.asserts b.0) closing.rest = (l.cut.front, l.cut.rest, l.cut.first, b.1, l.cut.is) in
+    let whole : IsMethodBy AreItems made printed =
     (key.front, key.rest, key.first, (named.1.front, named.1.rest, named.1.first, (opening.front, opening.rest, opening.first, (i.cut.front, i.cut.rest, i.cut.first, (closing.front, closing.rest, closing.first, locals_on, closing.is), i.cut.is), opening.is), named.1.is), key.is) in
-    (made, whole, same_method named.0 method.name i.again method.inputs l.again method.locals b.0 method.blocks i.same l.same b.2)
+    (made, whole, same_method method.asserts named.0 method.name i.again method.inputs l.again method.locals b.0 method.blocks i.same l.same b.2)
 
 method_again : (method : MethodTree) (ws : List Word) → IsMethod method ws → Again IsMethod unplaced_method (unplaced_method method) (method_words method)
-method_again method ws is = method_again_by IsGuarded guarded_again method ws is
+method_again method ws is = method_again_by AreBlocks blocks_again method ws is
 
 -- ---- files
 

@@ -19,12 +19,12 @@ use Rattle.lang_tree.specs.declared.tree.MonitorTree.{MonitorTree}
 use Rattle.lang_tokens.specs.Spelling.{Spells}
 use Rattle.lang_tokens.specs.inner.Pieces.{longest_at, other_at}
 use Rattle.lang_tokens.specs.Words.{Word, ident, mark, words}
-use Rattle.lang_syntax.specs.Grammar.{kind_word}
-use Rattle.lang_printer.specs.Canonical.{otherwise, statement_step, statement_text, literal_text, declared_text, declaration_text, local_text, guarded_text, lines_text, blocks_text, kind_text, input_text, input_texts, joined, method_text, tree_text}
-use Rattle.lang_syntax.proofs.CanonicalWords.{bare, expression_words, else_words, statement_words_step, statement_words, literal_words, declaration_words, input_words, inputs_words, local_words, guarded_words, method_words, tree_words}
+use Rattle.lang_syntax.specs.Grammar.{kind_word, ASSERTS}
+use Rattle.lang_printer.specs.Canonical.{otherwise, statement_step, statement_text, literal_text, declared_text, declaration_text, local_text, opening_text, guarded_text, lines_text, blocks_text, kind_text, input_text, input_texts, joined, method_text, tree_text}
+use Rattle.lang_syntax.proofs.CanonicalWords.{bare, expression_words, else_words, statement_words_step, statement_words, literal_words, declaration_words, input_words, inputs_words, local_words, opening_word, guarded_words, method_words, tree_words}
 use Rattle.lang_syntax.proofs.CanonicalPieces.{Reads, reads_nothing, spells_words, Says, ◌▷◌, ◌▶◌, less, says_nothing, says_same, space, line_feed, begin_brace, end_brace, begin_paren, end_paren, semicolon, comma, minus, between_blanks, keyword, name, number}
 use Rattle.lang_syntax.proofs.SpelledExpressions.{expression, truth}
-use Rattle.lang_syntax.proofs.Printable.{ArePrintable, IsPrintable, printable_front, printable_back, statement_layer}
+use Rattle.lang_syntax.proofs.Printable.{IsPrintableWord, ArePrintable, IsPrintable, printable_front, printable_back, statement_layer}
 
 -- ---- fixed texts
 
@@ -178,34 +178,47 @@ locals (d ∷ ds) ok = less (local d (printable_front (local_words d) (flat_map 
 guarded_group : (w g d b e : List Word) → ((((w ++ g) ++ d) ++ b) ++ []) ++ e ≡ ((w ++ g) ++ (d ++ b)) ++ e
 guarded_group w g d b e = simp (append_assoc, append-nil)
 
-guarded : (depth : ℕ) (b : BlockTree) → ArePrintable (guarded_words b) → Says false false (guarded_text depth b) (guarded_words b)
-guarded depth b ok =
-    let w = mark kinds.KeyWaituntil 0 ∷ mark kinds.OpenParen 0 ∷ [] in
+-- what opens a block
+opening : (asserts : Bool) → IsPrintableWord (opening_word asserts) → Says false false (opening_text asserts) (opening_word asserts ∷ mark kinds.OpenParen 0 ∷ [])
+opening true ok = name ASSERTS ok ▶ space ▷ begin_paren
+opening false ok = keyword 119 (codes "aituntil") refl refl (omega arith) ▶ space ▷ begin_paren
+
+guarded : (asserts : Bool) (depth : ℕ) (b : BlockTree) → ArePrintable (guarded_words (opening_word asserts) b)
+    → Says false false (guarded_text (opening_text asserts) depth b) (guarded_words (opening_word asserts) b)
+guarded asserts depth b ok =
+    let w = opening_word asserts ∷ mark kinds.OpenParen 0 ∷ [] in
     let g = expression_words b.guard in
     let d = mark kinds.CloseParen 0 ∷ mark kinds.OpenBrace 0 ∷ [] in
     let lines = flat_map statement_words b.body in
     let e = mark kinds.CloseBrace 0 ∷ [] in
     let front = printable_front ((w ++ g) ++ (d ++ lines)) e ok in
-    let head : Says false false (codes "waituntil (") w = keyword 119 (codes "aituntil") refl refl (omega arith) ▶ space ▷ begin_paren in
+    let head = opening asserts ok.0 in
     let last : Says false true (codes "}\n") e = end_brace ▷ line_feed in
     let guard = expression b.guard (printable_front (w ++ g) (d ++ lines) front).1.1 in
     let body = statements (depth + 1) b.body (printable_back (w ++ g) (d ++ lines) front).1.1 in
     says_same refl (guarded_group w g d lines e) (head ▷ guard ▶ block_begin ▷ body ▷ blanks (2 * depth) ▷ last)
 
-block_lines : (bs : List BlockTree) → ArePrintable (flat_map guarded_words bs) → Says false false (flat_map (λ b. codes "    " ++ guarded_text 2 b) bs) (flat_map guarded_words bs)
-block_lines [] ok = says_nothing false
-block_lines (b ∷ bs) ok =
+block_lines : (asserts : Bool) (bs : List BlockTree) → ArePrintable (flat_map (guarded_words (opening_word asserts)) bs)
+    → Says false false (flat_map (λ b. codes "    " ++ guarded_text (opening_text asserts) 2 b) bs) (flat_map (guarded_words (opening_word asserts)) bs)
+block_lines asserts [] ok = says_nothing false
+block_lines asserts (b ∷ bs) ok =
     let lead : Says false true (codes "    ") [] = space ▷ space ▷ space ▷ space in
-    less (lead ▷ guarded 2 b (printable_front (guarded_words b) (flat_map guarded_words bs) ok) ▷ block_lines bs (printable_back (guarded_words b) (flat_map guarded_words bs) ok))
+    let here = guarded_words (opening_word asserts) b in
+    let more = flat_map (guarded_words (opening_word asserts)) bs in
+    less (lead ▷ guarded asserts 2 b (printable_front here more ok) ▷ block_lines asserts bs (printable_back here more ok))
 
-lines : (ls : List Decl) (bs : List BlockTree) → ArePrintable (flat_map local_words ls) → ArePrintable (flat_map guarded_words bs) → Says false true (lines_text ls bs) (flat_map local_words ls ++ flat_map guarded_words bs)
-lines ls bs kept ok = line_feed ▷ locals ls kept ▷ block_lines bs ok
+lines : (asserts : Bool) (ls : List Decl) (bs : List BlockTree) → ArePrintable (flat_map local_words ls) → ArePrintable (flat_map (guarded_words (opening_word asserts)) bs)
+    → Says false true (lines_text (opening_text asserts) ls bs) (flat_map local_words ls ++ flat_map (guarded_words (opening_word asserts)) bs)
+lines asserts ls bs kept ok = line_feed ▷ locals ls kept ▷ block_lines asserts bs ok
 
-all_blocks : (ls : List Decl) (bs : List BlockTree) → ArePrintable (flat_map local_words ls) → ArePrintable (flat_map guarded_words bs) → Says false true (blocks_text ls bs) (flat_map local_words ls ++ flat_map guarded_words bs)
-all_blocks [] [] kept ok = lines [] [] kept ok
-all_blocks [] (b ∷ []) kept ok = says_same refl (sym (append-nil (guarded_words b))) (space ▷ guarded 1 b (printable_front (guarded_words b) [] ok))
-all_blocks [] (b ∷ (c ∷ more)) kept ok = lines [] (b ∷ (c ∷ more)) kept ok
-all_blocks (l ∷ ls) bs kept ok = lines (l ∷ ls) bs kept ok
+all_blocks : (asserts : Bool) (ls : List Decl) (bs : List BlockTree) → ArePrintable (flat_map local_words ls) → ArePrintable (flat_map (guarded_words (opening_word asserts)) bs)
+    → Says false true (blocks_text (opening_text asserts) ls bs) (flat_map local_words ls ++ flat_map (guarded_words (opening_word asserts)) bs)
+all_blocks asserts [] [] kept ok = lines asserts [] [] kept ok
+all_blocks asserts [] (b ∷ []) kept ok =
+    let words = guarded_words (opening_word asserts) b in
+    says_same refl (sym (append-nil words)) (space ▷ guarded asserts 1 b (printable_front words [] ok))
+all_blocks asserts [] (b ∷ (c ∷ more)) kept ok = lines asserts [] (b ∷ (c ∷ more)) kept ok
+all_blocks asserts (l ∷ ls) bs kept ok = lines asserts (l ∷ ls) bs kept ok
 
 method_group : (k i c l b : List Word) → ((k ++ i) ++ c) ++ (l ++ b) ≡ ((k ++ i) ++ (c ++ l)) ++ b
 method_group k i c l b = simp append_assoc
@@ -216,11 +229,11 @@ method m ok =
     let i = inputs_words m.inputs in
     let c = mark kinds.CloseParen 0 ∷ [] in
     let l = flat_map local_words m.locals in
-    let b = flat_map guarded_words m.blocks in
+    let b = flat_map (guarded_words (opening_word m.asserts)) m.blocks in
     let front = printable_front ((k ++ i) ++ (c ++ l)) b ok in
     let before = printable_front (k ++ i) (c ++ l) front in
     let head : Says false true (codes "  method ") (mark kinds.KeyMethod 0 ∷ []) = space ▷ space ▷ keyword 109 (codes "ethod") refl refl (omega arith) ▶ space in
-    let rest = all_blocks m.locals m.blocks (printable_back (k ++ i) (c ++ l) front).1 (printable_back ((k ++ i) ++ (c ++ l)) b ok) in
+    let rest = all_blocks m.asserts m.locals m.blocks (printable_back (k ++ i) (c ++ l) front).1 (printable_back ((k ++ i) ++ (c ++ l)) b ok) in
     says_same refl (method_group k i c l b) (head ▷ name m.name before.1.0 ▶ begin_paren ▷ all_inputs m.inputs before.1.1.1 ▶ end_paren ▷ rest)
 
 methods : (ms : List MethodTree) → ArePrintable (flat_map method_words ms) → Says false false (flat_map method_text ms) (flat_map method_words ms)

@@ -17,7 +17,7 @@ use Rattle.lang_tree.specs.declared.tree.BlockTree.{BlockTree}
 use Rattle.lang_tree.specs.declared.tree.MethodTree.{MethodTree}
 use Rattle.lang_tree.specs.declared.tree.MonitorTree.{MonitorTree}
 use Rattle.lang_tokens.specs.Words.{Word, ident, numeral, mark}
-use Rattle.lang_syntax.specs.Grammar.{truth_word, op_sign, sum_sign, kind_word}
+use Rattle.lang_syntax.specs.Grammar.{truth_word, op_sign, sum_sign, kind_word, ASSERTS}
 
 -- a word without its offset
 abbrev pub bare : Word → Word
@@ -105,15 +105,20 @@ inputs_words (first ∷ rest) = input_words first ++ flat_map (λ input. mark ki
 abbrev pub local_words : Decl → List Word
 local_words local = mark kinds.KeyLocal 0 ∷ declaration_words local
 
-abbrev pub guarded_words : BlockTree → List Word
-guarded_words block =
-    mark kinds.KeyWaituntil 0 ∷ mark kinds.OpenParen 0 ∷ expression_words block.guard ++ mark kinds.CloseParen 0
+-- the word that opens a block, by whether it asserts
+abbrev pub opening_word : Bool → Word
+opening_word true = ident ASSERTS 0
+opening_word false = mark kinds.KeyWaituntil 0
+
+abbrev pub guarded_words : Word → BlockTree → List Word
+guarded_words opening block =
+    opening ∷ mark kinds.OpenParen 0 ∷ expression_words block.guard ++ mark kinds.CloseParen 0
     ∷ mark kinds.OpenBrace 0 ∷ flat_map statement_words block.body ++ mark kinds.CloseBrace 0 ∷ []
 
 abbrev pub method_words : MethodTree → List Word
 method_words method =
     mark kinds.KeyMethod 0 ∷ ident method.name 0 ∷ mark kinds.OpenParen 0 ∷ inputs_words method.inputs ++ mark kinds.CloseParen 0
-    ∷ flat_map local_words method.locals ++ flat_map guarded_words method.blocks
+    ∷ flat_map local_words method.locals ++ flat_map (guarded_words (opening_word method.asserts)) method.blocks
 
 abbrev pub tree_words : MonitorTree → List Word
 tree_words tree =

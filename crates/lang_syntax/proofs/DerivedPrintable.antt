@@ -28,9 +28,9 @@ use Rattle.lang_tree.specs.declared.tree.BlockTree.{BlockTree}
 use Rattle.lang_tree.specs.declared.tree.MethodTree.{MethodTree}
 use Rattle.lang_tree.specs.declared.tree.MonitorTree.{MonitorTree}
 use Rattle.lang_tokens.specs.Spelling.{is_digit, IsToken, IsDecimal, IsIdentifier, Spells, text_of}
-use Rattle.lang_tokens.specs.Words.{Word, mark, word_of, words, decimal_value}
-use Rattle.lang_syntax.specs.Grammar.{Rule, ◌⌢◌, Each, OneOrMore, IsIdent, IsNumeral, IsMarkAt, IsMark, chain, IsFactor, IsProduct, IsAddend, IsSum, comparison, IsCompared, IsComparison, both, IsConjunction, either, IsDisjunction, Maybe, IsAtom, IsOpened, IsUnary, IsExpression, IsBlock, IsElse, IsSimple, IsIf, IsStatement, after_minus, IsLiteral, IsDeclaration, IsInput, AreInputs, IsLocal, IsGuarded, IsMethod, IsMonitorFile, Derives, truth_word, op_sign, sum_sign, kind_word}
-use Rattle.lang_syntax.proofs.CanonicalWords.{Spelled, spelled, spelled_step, words_at, in_parentheses, addend_words, factor_words, expression_words, else_words, statement_words, statement_words_step, literal_words, declaration_words, input_words, inputs_words, local_words, guarded_words, method_words}
+use Rattle.lang_tokens.specs.Words.{Word, ident, mark, word_of, words, decimal_value}
+use Rattle.lang_syntax.specs.Grammar.{Rule, ◌⌢◌, Each, OneOrMore, IsIdent, IsNumeral, IsMarkAt, IsMark, chain, IsFactor, IsProduct, IsAddend, IsSum, comparison, IsCompared, IsComparison, both, IsConjunction, either, IsDisjunction, Maybe, IsAtom, IsOpened, IsUnary, IsExpression, IsBlock, IsElse, IsSimple, IsIf, IsStatement, after_minus, IsLiteral, IsDeclaration, IsInput, AreInputs, IsLocal, IsGuarded, ASSERTS, IsAsserted, AreBlocks, IsMethod, IsMonitorFile, Derives, truth_word, op_sign, sum_sign, kind_word}
+use Rattle.lang_syntax.proofs.CanonicalWords.{Spelled, spelled, spelled_step, words_at, in_parentheses, addend_words, factor_words, expression_words, else_words, statement_words, statement_words_step, literal_words, declaration_words, input_words, inputs_words, local_words, opening_word, guarded_words, method_words}
 use Rattle.lang_tokens.proofs.Digits.{digit_is}
 use Rattle.lang_tokens.proofs.Numerals.{tokens_are}
 use Rattle.lang_syntax.proofs.Printable.{IsPrintableWord, ArePrintable, IsPrintable, printable_front, printable_back, printable_both, addend_tail, factor_tail, expression_layer, statement_layer}
@@ -333,34 +333,52 @@ local_rule (decls.Flag at name value) ws r ok = (tt, (IsMark kinds.KeyLocal &> d
 local : (d : Decl) → Gives (IsLocal d) (ArePrintable (local_words d))
 local d = record { gives = local_rule d }
 
-guarded : (b : BlockTree) → Gives (IsGuarded b) (ArePrintable (guarded_words b))
+-- a block's words, from those of its guard and of its body
+block_printable : (opening : Word) (b : BlockTree) → IsPrintableWord opening → ArePrintable (expression_words b.guard) → ArePrintable (flat_map statement_words b.body) → ArePrintable (guarded_words opening b)
+block_printable opening b opens guard body =
+    let g = expression_words b.guard in
+    let lines = mark kinds.CloseParen 0 ∷ mark kinds.OpenBrace 0 ∷ flat_map statement_words b.body in
+    (opens, (tt, printable_both (g ++ lines) (mark kinds.CloseBrace 0 ∷ []) (printable_both g lines guard (tt, (tt, body))) (tt, tt)))
+
+guarded : (b : BlockTree) → Gives (IsGuarded b) (ArePrintable (guarded_words (mark kinds.KeyWaituntil 0) b))
 guarded b = record {
   gives = λ ws r ok.
       let got =
       (IsMarkAt kinds.KeyWaituntil b.at &> IsMark kinds.OpenParen &> (expression LEVELS b.guard & (IsMark kinds.CloseParen
       &> block (IsStatement LEVELS) (statement LEVELS) b.body))).gives ws r ok in
-      let g = expression_words b.guard in
-      let lines = mark kinds.CloseParen 0 ∷ mark kinds.OpenBrace 0 ∷ flat_map statement_words b.body in
-      (tt, (tt, printable_both (g ++ lines) (mark kinds.CloseBrace 0 ∷ []) (printable_both g lines got.0 (tt, (tt, got.1))) (tt, tt)));
+      block_printable (mark kinds.KeyWaituntil 0) b tt got.0 got.1;
 }
 
-all_guarded : (bs : List BlockTree) → Gives (OneOrMore IsGuarded bs) (ArePrintable (flat_map guarded_words bs))
-all_guarded [] = record { gives = λ ws r ok. absurd r }
-all_guarded (b ∷ bs) = record {
+asserted : (b : BlockTree) → Gives (IsAsserted b) (ArePrintable (guarded_words (ident ASSERTS 0) b))
+asserted b = record {
   gives = λ ws r ok.
-      let got = (guarded b & each IsGuarded guarded_words guarded bs).gives ws r ok in
-      printable_both (guarded_words b) (flat_map guarded_words bs) got.0 got.1;
+      let got =
+      (is_name ASSERTS b.at & (IsMark kinds.OpenParen &> (expression LEVELS b.guard & (IsMark kinds.CloseParen
+      &> block (IsStatement LEVELS) (statement LEVELS) b.body)))).gives ws r ok in
+      block_printable (ident ASSERTS 0) b got.0 got.1.0 got.1.1;
 }
+
+all_blocks : (asserts : Bool) (bs : List BlockTree) → Gives (AreBlocks asserts bs) (ArePrintable (flat_map (guarded_words (opening_word asserts)) bs))
+all_blocks false [] = record { gives = λ ws r ok. absurd r }
+all_blocks false (b ∷ bs) = record {
+  gives = λ ws r ok.
+      let words = guarded_words (mark kinds.KeyWaituntil 0) in
+      let got = (guarded b & each IsGuarded words guarded bs).gives ws r ok in
+      printable_both (words b) (flat_map words bs) got.0 got.1;
+}
+all_blocks true [] = record { gives = λ ws r ok. absurd r }
+all_blocks true (b ∷ []) = record { gives = λ ws r ok. printable_both (guarded_words (ident ASSERTS 0) b) [] ((asserted b).gives ws r ok) tt }
+all_blocks true (b ∷ (c ∷ more)) = record { gives = λ ws r ok. absurd r }
 
 method : (m : MethodTree) → Gives (IsMethod m) (ArePrintable (method_words m))
 method m = record {
   gives = λ ws r ok.
       let got =
       (IsMark kinds.KeyMethod &> (is_name m.name m.at & (IsMark kinds.OpenParen &> (all_inputs m.inputs & (IsMark kinds.CloseParen
-      &> (each IsLocal local_words local m.locals & all_guarded m.blocks)))))).gives ws r ok in
+      &> (each IsLocal local_words local m.locals & all_blocks m.asserts m.blocks)))))).gives ws r ok in
       let i = inputs_words m.inputs in
       let l = mark kinds.CloseParen 0 ∷ flat_map local_words m.locals in
-      (tt, (got.0, (tt, printable_both (i ++ l) (flat_map guarded_words m.blocks) (printable_both i l got.1.0 (tt, got.1.1.0)) got.1.1.1)));
+      (tt, (got.0, (tt, printable_both (i ++ l) (flat_map (guarded_words (opening_word m.asserts)) m.blocks) (printable_both i l got.1.0 (tt, got.1.1.0)) got.1.1.1)));
 }
 
 file : (tree : MonitorTree) (ws : List Word) → IsMonitorFile tree ws → ArePrintable ws → IsPrintable tree

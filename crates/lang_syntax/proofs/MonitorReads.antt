@@ -17,15 +17,15 @@ use Rattle.lang_tree.specs.declared.tree.BlockTree.{BlockTree}
 use Rattle.lang_tree.specs.declared.tree.MethodTree.{MethodTree}
 use Rattle.lang_tree.specs.declared.tree.MonitorTree.{MonitorTree}
 use Rattle.lang_cursor.specs.declared.word.PlacedName.{PlacedName}
-use Rattle.lang_tokens.specs.Words.{Word, numeral, words}
-use Rattle.lang_syntax.specs.Grammar.{Rule, ◌⌢◌, Each, OneOrMore, IsIdent, IsNumeral, IsMarkAt, IsMark, truth_word, kind_word, IsExpression, IsBlock, IsStatement, after_minus, IsLiteral, IsDeclaration, IsInput, AreInputs, IsLocal, IsGuarded, IsMethod, IsMonitorFile}
+use Rattle.lang_tokens.specs.Words.{Word, ident, numeral, words}
+use Rattle.lang_syntax.specs.Grammar.{Rule, ◌⌢◌, Each, OneOrMore, IsIdent, IsNumeral, IsMarkAt, IsMark, truth_word, kind_word, IsExpression, IsBlock, IsStatement, after_minus, IsLiteral, IsDeclaration, IsInput, AreInputs, IsLocal, IsGuarded, ASSERTS, IsAsserted, Single, AreBlocks, IsMethod, IsMonitorFile}
 use Rattle.lang_syntax.specs.Fault.{IsFaultAt}
-use Rattle.lang_cursor.specs.Reading.{first_offset, Read, ◌⊗◌, made_at, pure_at, each_at, placed_at, mark_at, ident_at, numeral_at, listed_at, truth_of, kind_of, begins, begins_listed}
-use Rattle.lang_syntax.specs.inner.Reading.{begins_declaration, condition_at, block_at, statement_at, literal_of, negative_of, literal_at, Declared, constant_of, int_of, flag_of, declared_at, constant_at, int_at, flag_at, variable_at, declaration_at, declarations_at, input_of, input_at, later_input_of, later_input_at, later_inputs_at, inputs_of, some_inputs_at, inputs_at, head_of, head_at, local_of, local_at, locals_at, guarded_of, guarded_at, later_blocks_at, blocks_of, blocks_at, method_of, method_at, methods_at, monitor_of, monitor_at, monitor_file}
+use Rattle.lang_cursor.specs.Reading.{first_offset, Read, ◌⊗◌, made_at, choice_at, pure_at, each_at, placed_at, mark_at, ident_at, spelled_at, numeral_at, listed_at, truth_of, kind_of, begins, begins_listed, begins_spelled}
+use Rattle.lang_syntax.specs.inner.Reading.{begins_declaration, condition_at, block_at, statement_at, literal_of, negative_of, literal_at, Declared, constant_of, int_of, flag_of, declared_at, constant_at, int_at, flag_at, variable_at, declaration_at, declarations_at, input_of, input_at, later_input_of, later_input_at, later_inputs_at, inputs_of, some_inputs_at, inputs_at, head_of, head_at, local_of, local_at, locals_at, guarded_of, guarded_at, later_blocks_at, blocks_of, blocks_at, asserted_at, waiting_of, asserting_of, method_blocks_at, method_of, method_at, methods_at, monitor_of, monitor_at, monitor_file}
 use Rattle.lang_syntax.proofs.Readers.{Reads, Anything, Both, pair_reads, made_reads, pure_reads, choice_reads, each_reads, before, whole_found, whole_again, whole_fault}
-use Rattle.lang_syntax.proofs.WordReads.{IsPlacedName, IsPlacedNumber, ident_reads, numeral_reads, truth_reads, kind_reads, begins_heads, listed_heads, declaration_heads}
-use Rattle.lang_syntax.proofs.Openings.{Opens, At, mark_opens, placed_opens, numeral_opens, then_opens, items_open, begins_none, begins_at, begun}
-use Rattle.lang_syntax.proofs.Sequences.{five_right, five_left, three_right, three_left, within_second, Made, same_reads, mark_then, placed_then, ident_then, then_mark, image_reads}
+use Rattle.lang_syntax.proofs.WordReads.{IsPlacedName, IsPlacedNumber, placed_reads, ident_reads, spelled_reads, begins_letters, numeral_reads, truth_reads, kind_reads, begins_heads, listed_heads, spelled_heads, declaration_heads}
+use Rattle.lang_syntax.proofs.Openings.{Opens, At, mark_opens, placed_opens, ident_opens, numeral_opens, then_opens, items_open, begins_none, begins_at, begun}
+use Rattle.lang_syntax.proofs.Sequences.{five_right, five_left, three_right, three_left, within_second, Made, same_reads, mark_then, ident_then, then_mark, image_reads}
 use Rattle.lang_syntax.proofs.ExpressionReads.{IsParenthesized}
 use Rattle.lang_syntax.proofs.StatementReads.{condition_reads, body_reads}
 use Rattle.lang_syntax.proofs.FileFaults.{file_fault}
@@ -317,45 +317,64 @@ unfolding locals_at
 locals_read = before (Each IsLocal) locals_at (λ ws. NoLocal ws × Anything ws) NoLocal (λ ws none. (none, tt))
     (each_reads (begins kinds.KeyLocal) IsLocal local_at Anything (begins_heads kinds.KeyLocal) (begins_none kinds.KeyLocal) local_reads local_begins (λ ws h. tt))
 
--- a block, over the rules of its guard and of its body
-abbrev IsGuardedOf : Rule Expr → Rule (List StmtTree) → Rule BlockTree
-IsGuardedOf IsGuard IsBody block =
-    IsMarkAt kinds.KeyWaituntil block.at ⌢ IsMark kinds.OpenParen ⌢ IsGuard block.guard ⌢ IsMark kinds.CloseParen ⌢ IsBody block.body
+-- a block, over the rules of the word that opens it, of its guard and of its body
+abbrev IsBlockOf : Rule ℕ → Rule Expr → Rule (List StmtTree) → Rule BlockTree
+IsBlockOf IsOpening IsGuard IsBody block =
+    IsOpening block.at ⌢ IsMark kinds.OpenParen ⌢ IsGuard block.guard ⌢ IsMark kinds.CloseParen ⌢ IsBody block.body
 
-guarded_reads_of : (IsGuard : Rule Expr) (guard : List Word → Read Expr) (IsBody : Rule (List StmtTree)) (body : List Word → Read (List StmtTree)) → Reads (IsParenthesized IsGuard) guard Anything → Reads IsBody body Anything
-    → Reads (IsGuardedOf IsGuard IsBody) (made_at guarded_of (placed_at kinds.KeyWaituntil ⊗ guard ⊗ body)) Anything
-guarded_reads_of IsGuard guard IsBody body r s =
-    made_reads (Both (λ (at : ℕ). IsMarkAt kinds.KeyWaituntil at) IsRest) (placed_at kinds.KeyWaituntil ⊗ guard ⊗ body) Anything guarded_of (IsGuardedOf IsGuard IsBody)
-    (placed_then kinds.KeyWaituntil IsRest (guard ⊗ body) Anything (pair_reads (IsParenthesized IsGuard) guard Anything IsBody body Anything r s (λ y taken rest is after. tt)))
+block_reads_of : (IsOpening : Rule ℕ) (opening : List Word → Read ℕ) (IsGuard : Rule Expr) (guard : List Word → Read Expr) (IsBody : Rule (List StmtTree)) (body : List Word → Read (List StmtTree))
+    → Reads IsOpening opening Anything → Reads (IsParenthesized IsGuard) guard Anything → Reads IsBody body Anything
+    → Reads (IsBlockOf IsOpening IsGuard IsBody) (made_at guarded_of (opening ⊗ guard ⊗ body)) Anything
+block_reads_of IsOpening opening IsGuard guard IsBody body q r s =
+    made_reads (Both IsOpening IsRest) (opening ⊗ guard ⊗ body) Anything guarded_of (IsBlockOf IsOpening IsGuard IsBody)
+    (pair_reads IsOpening opening Anything IsRest (guard ⊗ body) Anything q (pair_reads (IsParenthesized IsGuard) guard Anything IsBody body Anything r s (λ y taken rest is after. tt)) (λ y taken rest is after. tt))
     (λ x ws p. flat x.0 x.1.0 x.1.1 ws p)
     (λ y ws p. ((y.at, (y.guard, y.body)), refl, grouped y.at y.guard y.body ws p))
   where
     IsRest : Rule (Expr × List StmtTree)
     IsRest = Both (IsParenthesized IsGuard) IsBody
 
-    flat : (at : ℕ) (guard : Expr) (body : List StmtTree) (ws : List Word) → (IsMarkAt kinds.KeyWaituntil at ⌢ IsRest (guard, body)) ws
-        → (IsMarkAt kinds.KeyWaituntil at ⌢ IsMark kinds.OpenParen ⌢ IsGuard guard ⌢ IsMark kinds.CloseParen ⌢ IsBody body) ws
-    flat at guard body = within_second (IsMarkAt kinds.KeyWaituntil at) (IsParenthesized IsGuard guard ⌢ IsBody body) (IsMark kinds.OpenParen ⌢ IsGuard guard ⌢ IsMark kinds.CloseParen ⌢ IsBody body)
+    flat : (at : ℕ) (guard : Expr) (body : List StmtTree) (ws : List Word) → (IsOpening at ⌢ IsRest (guard, body)) ws
+        → (IsOpening at ⌢ IsMark kinds.OpenParen ⌢ IsGuard guard ⌢ IsMark kinds.CloseParen ⌢ IsBody body) ws
+    flat at guard body = within_second (IsOpening at) (IsParenthesized IsGuard guard ⌢ IsBody body) (IsMark kinds.OpenParen ⌢ IsGuard guard ⌢ IsMark kinds.CloseParen ⌢ IsBody body)
         (three_right (IsMark kinds.OpenParen) (IsGuard guard) (IsMark kinds.CloseParen) (IsBody body))
 
-    grouped : (at : ℕ) (guard : Expr) (body : List StmtTree) (ws : List Word) → (IsMarkAt kinds.KeyWaituntil at ⌢ IsMark kinds.OpenParen ⌢ IsGuard guard ⌢ IsMark kinds.CloseParen ⌢ IsBody body) ws
-        → (IsMarkAt kinds.KeyWaituntil at ⌢ IsRest (guard, body)) ws
-    grouped at guard body = within_second (IsMarkAt kinds.KeyWaituntil at) (IsMark kinds.OpenParen ⌢ IsGuard guard ⌢ IsMark kinds.CloseParen ⌢ IsBody body) (IsParenthesized IsGuard guard ⌢ IsBody body)
+    grouped : (at : ℕ) (guard : Expr) (body : List StmtTree) (ws : List Word) → (IsOpening at ⌢ IsMark kinds.OpenParen ⌢ IsGuard guard ⌢ IsMark kinds.CloseParen ⌢ IsBody body) ws
+        → (IsOpening at ⌢ IsRest (guard, body)) ws
+    grouped at guard body = within_second (IsOpening at) (IsMark kinds.OpenParen ⌢ IsGuard guard ⌢ IsMark kinds.CloseParen ⌢ IsBody body) (IsParenthesized IsGuard guard ⌢ IsBody body)
         (three_left (IsMark kinds.OpenParen) (IsGuard guard) (IsMark kinds.CloseParen) (IsBody body))
+
+abbrev IsWait : Rule ℕ
+IsWait at = IsMarkAt kinds.KeyWaituntil at
+
+abbrev IsAssertion : Rule ℕ
+IsAssertion at = IsIdent ASSERTS at
 
 pub guarded_reads : Reads IsGuarded guarded_at Anything
 unfolding guarded_at
-guarded_reads = guarded_reads_of (IsExpression LEVELS) (condition_at LEVELS) (IsBlock (IsStatement LEVELS)) (block_at (statement_at LEVELS)) (condition_reads LEVELS) (body_reads LEVELS)
+guarded_reads =
+    block_reads_of IsWait (placed_at kinds.KeyWaituntil) (IsExpression LEVELS) (condition_at LEVELS) (IsBlock (IsStatement LEVELS)) (block_at (statement_at LEVELS))
+    (placed_reads kinds.KeyWaituntil) (condition_reads LEVELS) (body_reads LEVELS)
 
-guarded_opens_of : (IsGuard : Rule Expr) (IsBody : Rule (List StmtTree)) (Fact : List Word → Type 0) → At kinds.KeyWaituntil Fact → (x : BlockTree) → Opens (IsGuardedOf IsGuard IsBody x) Fact
-guarded_opens_of IsGuard IsBody Fact so x =
-    then_opens (IsMarkAt kinds.KeyWaituntil x.at) (IsMark kinds.OpenParen ⌢ IsGuard x.guard ⌢ IsMark kinds.CloseParen ⌢ IsBody x.body) Fact (placed_opens kinds.KeyWaituntil x.at Fact so)
+asserted_reads : Reads IsAsserted asserted_at Anything
+unfolding asserted_at
+asserted_reads =
+    block_reads_of IsAssertion (spelled_at ASSERTS) (IsExpression LEVELS) (condition_at LEVELS) (IsBlock (IsStatement LEVELS)) (block_at (statement_at LEVELS))
+    (spelled_reads ASSERTS) (condition_reads LEVELS) (body_reads LEVELS)
+
+block_opens_of : (IsOpening : Rule ℕ) (IsGuard : Rule Expr) (IsBody : Rule (List StmtTree)) (Fact : List Word → Type 0) → ((at : ℕ) → Opens (IsOpening at) Fact)
+    → (x : BlockTree) → Opens (IsBlockOf IsOpening IsGuard IsBody x) Fact
+block_opens_of IsOpening IsGuard IsBody Fact so x =
+    then_opens (IsOpening x.at) (IsMark kinds.OpenParen ⌢ IsGuard x.guard ⌢ IsMark kinds.CloseParen ⌢ IsBody x.body) Fact (so x.at)
 
 guarded_opens : (Fact : List Word → Type 0) → At kinds.KeyWaituntil Fact → (x : BlockTree) → Opens (IsGuarded x) Fact
-guarded_opens Fact so x = guarded_opens_of (IsExpression LEVELS) (IsBlock (IsStatement LEVELS)) Fact so x
+guarded_opens Fact so x = block_opens_of IsWait (IsExpression LEVELS) (IsBlock (IsStatement LEVELS)) Fact (λ at. placed_opens kinds.KeyWaituntil at Fact so) x
 
 pub guarded_begins : (x : BlockTree) → Opens (IsGuarded x) (λ ws. begins kinds.KeyWaituntil ws ≡ true)
 guarded_begins x = guarded_opens (λ ws. begins kinds.KeyWaituntil ws ≡ true) (begins_at kinds.KeyWaituntil) x
+
+asserted_opens : (Fact : List Word → Type 0) → ((at : ℕ) (rest : List Word) → Fact (ident ASSERTS at ∷ rest)) → (x : BlockTree) → Opens (IsAsserted x) Fact
+asserted_opens Fact so x = block_opens_of IsAssertion (IsExpression LEVELS) (IsBlock (IsStatement LEVELS)) Fact (λ at. ident_opens ASSERTS at Fact (so at)) x
 
 -- what follows a method: no block of it
 abbrev pub NoBlock : List Word → Type 0
@@ -383,54 +402,124 @@ blocks_read : Reads (OneOrMore IsGuarded) blocks_at NoBlock
 unfolding blocks_at later_blocks_at
 blocks_read = blocks_read_of IsGuarded guarded_at guarded_reads guarded_begins
 
-block_no_local : At kinds.KeyWaituntil NoLocal
+some_open : (IsItem : Rule BlockTree) (Fact : List Word → Type 0) → ((x : BlockTree) → Opens (IsItem x) Fact) → (x : List BlockTree) → Opens (OneOrMore IsItem x) Fact
+some_open IsItem Fact so [] taken rest p = absurd p
+some_open IsItem Fact so (first ∷ more) taken rest p = then_opens (IsItem first) (Each IsItem more) Fact (so first) taken rest p
+
+single_opens : (IsItem : Rule BlockTree) (Fact : List Word → Type 0) → ((x : BlockTree) → Opens (IsItem x) Fact) → (x : List BlockTree) → Opens (Single IsItem x) Fact
+single_opens IsItem Fact so [] taken rest p = absurd p
+single_opens IsItem Fact so (one ∷ []) taken rest p = so one taken rest p
+single_opens IsItem Fact so (one ∷ (next ∷ more)) taken rest p = absurd p
+
+-- the blocks of a method, with whether they assert
+abbrev IsWaiting : Rule BlockTree → Rule (Bool × List BlockTree)
+IsWaiting IsItem = Made waiting_of (OneOrMore IsItem)
+
+abbrev IsAsserting : Rule BlockTree → Rule (Bool × List BlockTree)
+IsAsserting IsItem = Made asserting_of IsItem
+
+abbrev AreEither : Rule BlockTree → Rule BlockTree → Bool → Rule (List BlockTree)
+AreEither IsItem IsOther false = OneOrMore IsItem
+AreEither IsItem IsOther true = Single IsOther
+
+either_read : (letters : List ℕ) (IsItem : Rule BlockTree) (items : List Word → Read (List BlockTree)) (IsOther : Rule BlockTree) (other : List Word → Read BlockTree)
+    → Reads (OneOrMore IsItem) items NoBlock → Reads IsOther other Anything
+    → ((x : BlockTree) → Opens (IsItem x) (λ ws. begins_spelled letters ws ≡ false)) → ((x : BlockTree) → Opens (IsOther x) (λ ws. begins_spelled letters ws ≡ true))
+    → Reads (λ pair. AreEither IsItem IsOther pair.0 pair.1) (choice_at (begins_spelled letters) (made_at asserting_of other) (made_at waiting_of items)) NoBlock
+either_read letters IsItem items IsOther other r s waits asserts =
+    same_reads (λ x ws. IsAsserting IsOther x ws ⊎ IsWaiting IsItem x ws) (λ pair. AreEither IsItem IsOther pair.0 pair.1) (choice_at (begins_spelled letters) (made_at asserting_of other) (made_at waiting_of items)) NoBlock
+    (choice_reads (begins_spelled letters) (IsAsserting IsOther) (made_at asserting_of other) Anything (IsWaiting IsItem) (made_at waiting_of items) NoBlock NoBlock (spelled_heads letters)
+    (image_reads IsOther other Anything asserting_of s) (image_reads (OneOrMore IsItem) items NoBlock waiting_of r)
+    (λ x taken rest p after. (asserts p.0 taken rest p.2, tt))
+    (λ x taken rest p after. (some_open IsItem (λ ws. begins_spelled letters ws ≡ false) waits p.0 taken rest p.2, after)))
+    to (λ x ws p. from x.0 x.1 ws p)
+  where
+    to : (x : Bool × List BlockTree) (ws : List Word) → IsAsserting IsOther x ws ⊎ IsWaiting IsItem x ws → AreEither IsItem IsOther x.0 x.1 ws
+    to x ws (inl p) = subst (λ (y : Bool × List BlockTree). AreEither IsItem IsOther y.0 y.1 ws) (sym p.1) p.2
+    to x ws (inr p) = subst (λ (y : Bool × List BlockTree). AreEither IsItem IsOther y.0 y.1 ws) (sym p.1) p.2
+
+    from : (asserts : Bool) (blocks : List BlockTree) (ws : List Word) → AreEither IsItem IsOther asserts blocks ws → IsAsserting IsOther (asserts, blocks) ws ⊎ IsWaiting IsItem (asserts, blocks) ws
+    from false blocks ws p = inr (blocks, refl, p)
+    from true [] ws p = absurd p
+    from true (block ∷ []) ws p = inl (block, refl, p)
+    from true (block ∷ (next ∷ more)) ws p = absurd p
+
+wait_no_assertion : At kinds.KeyWaituntil (λ ws. begins_spelled ASSERTS ws ≡ false)
+unfolding begins_spelled
+wait_no_assertion at rest = refl
+
+same_blocks : (pair : Bool × List BlockTree) (ws : List Word) → AreEither IsGuarded IsAsserted pair.0 pair.1 ws → AreBlocks pair.0 pair.1 ws
+same_blocks (false, blocks) ws p = p
+same_blocks (true, blocks) ws p = p
+
+blocks_same : (pair : Bool × List BlockTree) (ws : List Word) → AreBlocks pair.0 pair.1 ws → AreEither IsGuarded IsAsserted pair.0 pair.1 ws
+blocks_same (false, blocks) ws p = p
+blocks_same (true, blocks) ws p = p
+
+method_blocks_read : Reads (λ pair. AreBlocks pair.0 pair.1) method_blocks_at NoBlock
+unfolding method_blocks_at
+method_blocks_read =
+    same_reads (λ pair. AreEither IsGuarded IsAsserted pair.0 pair.1) (λ pair. AreBlocks pair.0 pair.1) (choice_at (begins_spelled ASSERTS) (made_at asserting_of asserted_at) (made_at waiting_of blocks_at)) NoBlock
+    (either_read ASSERTS IsGuarded blocks_at IsAsserted asserted_at blocks_read asserted_reads
+    (guarded_opens (λ ws. begins_spelled ASSERTS ws ≡ false) wait_no_assertion) (asserted_opens (λ ws. begins_spelled ASSERTS ws ≡ true) (begins_letters ASSERTS)))
+    same_blocks blocks_same
+
+wait_no_local : At kinds.KeyWaituntil NoLocal
 unfolding begins
-block_no_local at rest = refl
+wait_no_local at rest = refl
+
+assertion_no_local : (at : ℕ) (rest : List Word) → NoLocal (ident ASSERTS at ∷ rest)
+unfolding begins
+assertion_no_local at rest = refl
+
+blocks_no_local : (asserts : Bool) (x : List BlockTree) → Opens (AreBlocks asserts x) NoLocal
+blocks_no_local false x = some_open IsGuarded NoLocal (guarded_opens NoLocal wait_no_local) x
+blocks_no_local true x = single_opens IsAsserted NoLocal (asserted_opens NoLocal assertion_no_local) x
 
 -- a method, over the rule of its blocks
-abbrev IsMethodOf : Rule BlockTree → Rule MethodTree
-IsMethodOf IsItem method =
+abbrev IsMethodOf : (Bool → Rule (List BlockTree)) → Rule MethodTree
+IsMethodOf AreItems method =
     IsMark kinds.KeyMethod ⌢ IsIdent method.name method.at ⌢ IsMark kinds.OpenParen ⌢ AreInputs method.inputs ⌢ IsMark kinds.CloseParen
-    ⌢ Each IsLocal method.locals ⌢ OneOrMore IsItem method.blocks
+    ⌢ Each IsLocal method.locals ⌢ AreItems method.asserts method.blocks
 
-method_reads_of : (IsItem : Rule BlockTree) (blocks : List Word → Read (List BlockTree)) → Reads (OneOrMore IsItem) blocks NoBlock → ((x : BlockTree) → Opens (IsItem x) NoLocal)
-    → Reads (IsMethodOf IsItem) (made_at method_of (head_at ⊗ locals_at ⊗ blocks)) NoBlock
-method_reads_of IsItem blocks r no_local =
-    made_reads (Both IsHead IsRest) (head_at ⊗ locals_at ⊗ blocks) NoBlock method_of (IsMethodOf IsItem)
+method_reads_of : (AreItems : Bool → Rule (List BlockTree)) (blocks : List Word → Read (Bool × List BlockTree)) → Reads (λ pair. AreItems pair.0 pair.1) blocks NoBlock
+    → ((asserts : Bool) (x : List BlockTree) → Opens (AreItems asserts x) NoLocal)
+    → Reads (IsMethodOf AreItems) (made_at method_of (head_at ⊗ locals_at ⊗ blocks)) NoBlock
+method_reads_of AreItems blocks r no_local =
+    made_reads (Both IsHead IsRest) (head_at ⊗ locals_at ⊗ blocks) NoBlock method_of (IsMethodOf AreItems)
     (pair_reads IsHead head_at Anything IsRest (locals_at ⊗ blocks) NoBlock head_reads
-    (pair_reads (Each IsLocal) locals_at NoLocal (OneOrMore IsItem) blocks NoBlock locals_read r meets)
+    (pair_reads (Each IsLocal) locals_at NoLocal ArePaired blocks NoBlock locals_read r (λ y taken rest p after. no_local y.0 y.1 taken rest p))
     (λ y taken rest is after. tt))
     to from
   where
-    IsRest : Rule (List Decl × List BlockTree)
-    IsRest = Both (Each IsLocal) (OneOrMore IsItem)
+    ArePaired : Rule (Bool × List BlockTree)
+    ArePaired pair = AreItems pair.0 pair.1
 
-    meets : (y : List BlockTree) (taken rest : List Word) → OneOrMore IsItem y taken → NoBlock rest → NoLocal (taken ++ rest)
-    meets [] taken rest p after = absurd p
-    meets (first ∷ more) taken rest p after = then_opens (IsItem first) (Each IsItem more) NoLocal (no_local first) taken rest p
+    IsRest : Rule (List Decl × (Bool × List BlockTree))
+    IsRest = Both (Each IsLocal) ArePaired
 
-    to : (x : (PlacedName × List InputTree) × (List Decl × List BlockTree)) (ws : List Word) → Both IsHead IsRest x ws → IsMethodOf IsItem (method_of x) ws
-    to x ws p = five_right (IsMark kinds.KeyMethod) (IsPlacedName x.0.0) (IsMark kinds.OpenParen) (AreInputs x.0.1) (IsMark kinds.CloseParen) (Each IsLocal x.1.0 ⌢ OneOrMore IsItem x.1.1) ws p
+    to : (x : (PlacedName × List InputTree) × (List Decl × (Bool × List BlockTree))) (ws : List Word) → Both IsHead IsRest x ws → IsMethodOf AreItems (method_of x) ws
+    to x ws p = five_right (IsMark kinds.KeyMethod) (IsPlacedName x.0.0) (IsMark kinds.OpenParen) (AreInputs x.0.1) (IsMark kinds.CloseParen) (Each IsLocal x.1.0 ⌢ AreItems x.1.1.0 x.1.1.1) ws p
 
-    from : (y : MethodTree) (ws : List Word) → IsMethodOf IsItem y ws → (x : (PlacedName × List InputTree) × (List Decl × List BlockTree)) × (y ≡ method_of x) × Both IsHead IsRest x ws
+    from : (y : MethodTree) (ws : List Word) → IsMethodOf AreItems y ws → (x : (PlacedName × List InputTree) × (List Decl × (Bool × List BlockTree))) × (y ≡ method_of x) × Both IsHead IsRest x ws
     from y ws p = (
-      (((record { at = y.at; name = y.name }), y.inputs), (y.locals, y.blocks)),
+      (((record { at = y.at; name = y.name }), y.inputs), (y.locals, (y.asserts, y.blocks))),
       refl,
-      five_left (IsMark kinds.KeyMethod) (IsIdent y.name y.at) (IsMark kinds.OpenParen) (AreInputs y.inputs) (IsMark kinds.CloseParen) (Each IsLocal y.locals ⌢ OneOrMore IsItem y.blocks) ws p,
+      five_left (IsMark kinds.KeyMethod) (IsIdent y.name y.at) (IsMark kinds.OpenParen) (AreInputs y.inputs) (IsMark kinds.CloseParen) (Each IsLocal y.locals ⌢ AreItems y.asserts y.blocks) ws p,
     )
 
 pub method_reads : Reads IsMethod method_at NoBlock
 unfolding method_at
-method_reads = method_reads_of IsGuarded blocks_at blocks_read (guarded_opens NoLocal block_no_local)
+method_reads = method_reads_of AreBlocks method_blocks_at method_blocks_read blocks_no_local
 
-method_opens_of : (IsItem : Rule BlockTree) (Fact : List Word → Type 0) → At kinds.KeyMethod Fact → (x : MethodTree) → Opens (IsMethodOf IsItem x) Fact
-method_opens_of IsItem Fact so x =
+method_opens_of : (AreItems : Bool → Rule (List BlockTree)) (Fact : List Word → Type 0) → At kinds.KeyMethod Fact → (x : MethodTree) → Opens (IsMethodOf AreItems x) Fact
+method_opens_of AreItems Fact so x =
     then_opens (IsMark kinds.KeyMethod)
-    (IsIdent x.name x.at ⌢ IsMark kinds.OpenParen ⌢ AreInputs x.inputs ⌢ IsMark kinds.CloseParen ⌢ Each IsLocal x.locals ⌢ OneOrMore IsItem x.blocks)
+    (IsIdent x.name x.at ⌢ IsMark kinds.OpenParen ⌢ AreInputs x.inputs ⌢ IsMark kinds.CloseParen ⌢ Each IsLocal x.locals ⌢ AreItems x.asserts x.blocks)
     Fact (mark_opens kinds.KeyMethod Fact so)
 
 method_opens : (Fact : List Word → Type 0) → At kinds.KeyMethod Fact → (x : MethodTree) → Opens (IsMethod x) Fact
-method_opens Fact so x = method_opens_of IsGuarded Fact so x
+method_opens Fact so x = method_opens_of AreBlocks Fact so x
 
 pub method_begins : (x : MethodTree) → Opens (IsMethod x) (λ ws. begins kinds.KeyMethod ws ≡ true)
 method_begins x = method_opens (λ ws. begins kinds.KeyMethod ws ≡ true) (begins_at kinds.KeyMethod) x

@@ -5,7 +5,7 @@ use Rattle.std.specs.Prelude.{nat_lt, if◌then◌else◌}
 use Rattle.std.specs.List.{flat_map}
 use Rattle.std.proofs.lemmas.List.Concat.{flat_map-append}
 use Rattle.std.proofs.lemmas.List.Folds.{flat_map-map}
-use Rattle.std.proofs.lemmas.List.Elements.{All-cons, All-nil}
+use Rattle.std.proofs.lemmas.List.Elements.{All-append, All-cons, All-nil}
 use Rattle.lang_base.specs.Limits.{LEVELS}
 use Rattle.lang_tokens.specs.declared.token.TokenKind.{TokenKind}
 use Rattle.lang_tokens.specs.declared.token.TokenKind.TheVariants as kinds
@@ -36,8 +36,8 @@ use Rattle.lang_tokens.specs.Spelling.{IsIdentifier, Spells}
 use Rattle.lang_tokens.specs.Words.{Word, ident, numeral, mark, words}
 use Rattle.lang_syntax.specs.Grammar.{◌⌢◌, Each, IsBlock, IsIdent, IsNumeral, IsMarkAt, IsMark, truth_word, Derives}
 use Rattle.lang_syntax.specs.ClientGrammar.{IsArgument, AreArguments, IsCalled, IsCall, IsRepeat, IsItem, IsClient, DerivesClients}
-use Rattle.lang_syntax.proofs.CanonicalWords.{Spelled, in_parentheses, words_at, joined_words, spelled, spelled_step, addend_words, factor_words, expression_words, else_words, statement_words, statement_words_step, minus_words, literal_words, declaration_words, input_words, inputs_words, local_words, guarded_words, method_words, tree_words}
-use Rattle.lang_syntax.proofs.Printable.{ArePrintable, addend_tail, factor_tail, expression_layer, statement_layer}
+use Rattle.lang_syntax.proofs.CanonicalWords.{Spelled, in_parentheses, words_at, joined_words, spelled, spelled_step, addend_words, factor_words, expression_words, else_words, statement_words, statement_words_step, minus_words, literal_words, declaration_words, input_words, inputs_words, local_words, opening_word, guarded_words, method_words, tree_words}
+use Rattle.lang_syntax.proofs.Printable.{ArePrintable, printable_front, printable_back, addend_tail, factor_tail, expression_layer, statement_layer}
 use Rattle.lang_syntax.proofs.DerivedPrintable.{derived_printable, words_printable}
 use Rattle.lang_tokens.proofs.Numerals.{tokens_are}
 
@@ -227,42 +227,66 @@ inputs_say (first ∷ rest) = ap (λ n. first.name ∷ n) (one_name (λ input. m
 local_says : (d : Decl) → names_said (local_words d) ≡ declared_name d ∷ []
 local_says d = declaration_says d
 
-guarded_says : (block : BlockTree) → names_said (guarded_words block) ≡ block_names block
-guarded_says block =
-    let guard = mark kinds.KeyWaituntil 0 ∷ mark kinds.OpenParen 0 ∷ expression_words block.guard in
-    let body = mark kinds.CloseParen 0 ∷ mark kinds.OpenBrace 0 ∷ flat_map statement_words block.body in
-    let g = expression_names block.guard in
-    let b = flat_map statement_names block.body in
-    before_mark kinds.CloseBrace (guard ++ body) (g ++ b) (both_said guard body g b (expression_says block.guard) (each_said statement_words statement_names statement_says block.body))
-
-method_says : (m : MethodTree) → names_said (method_words m) ≡ method_names m
-method_says m =
-    let head = mark kinds.KeyMethod 0 ∷ ident m.name 0 ∷ mark kinds.OpenParen 0 ∷ inputs_words m.inputs in
-    let locals = mark kinds.CloseParen 0 ∷ flat_map local_words m.locals in
-    let blocks = flat_map guarded_words m.blocks in
-    let i = m.name ∷ map (λ (input : InputTree). input.name) m.inputs in
-    let l = map declared_name m.locals in
-    let b = flat_map block_names m.blocks in
-    let first = both_said head locals i l (ap (λ n. m.name ∷ n) (inputs_say m.inputs)) (one_name local_words declared_name local_says m.locals) in
-    both_said (head ++ locals) blocks (i ++ l) b first (each_said guarded_words block_names guarded_says m.blocks)
-    ∙ append_assoc i l b
-
-tree_says : (tree : MonitorTree) → names_said (tree_words tree) ≡ names_in tree
-tree_says tree =
-    let head = mark kinds.KeyMonitor 0 ∷ ident tree.name 0 ∷ mark kinds.OpenBrace 0 ∷ flat_map declaration_words tree.decls in
-    let d = tree.name ∷ map declared_name tree.decls in
-    let m = flat_map method_names tree.methods in
-    before_mark kinds.CloseBrace (head ++ flat_map method_words tree.methods) (d ++ m)
-    (both_said head (flat_map method_words tree.methods) d m (ap (λ n. tree.name ∷ n) (one_name declaration_words declared_name declaration_says tree.decls)) (each_said method_words method_names method_says tree.methods))
-
 pub all_identifiers : (ws : List Word) → ArePrintable ws → All IsIdentifier (names_said ws)
 all_identifiers [] ok = All-nil IsIdentifier
 all_identifiers (ident name at ∷ ws) ok = All-cons IsIdentifier name (names_said ws) ok.0 (all_identifiers ws ok.1)
 all_identifiers (numeral value at ∷ ws) ok = all_identifiers ws ok.1
 all_identifiers (mark kind at ∷ ws) ok = all_identifiers ws ok.1
 
+-- A method's word `asserts` is no name of the tree. So from here on the names are those of words
+-- that can be printed.
+
+-- a block's words after the one that opens it
+abbrev after_opening : BlockTree → List Word
+after_opening block =
+    mark kinds.OpenParen 0 ∷ expression_words block.guard ++ mark kinds.CloseParen 0
+    ∷ mark kinds.OpenBrace 0 ∷ flat_map statement_words block.body ++ mark kinds.CloseBrace 0 ∷ []
+
+after_says : (block : BlockTree) → names_said (after_opening block) ≡ block_names block
+after_says block =
+    let guard = mark kinds.OpenParen 0 ∷ expression_words block.guard in
+    let body = mark kinds.CloseParen 0 ∷ mark kinds.OpenBrace 0 ∷ flat_map statement_words block.body in
+    let g = expression_names block.guard in
+    let b = flat_map statement_names block.body in
+    before_mark kinds.CloseBrace (guard ++ body) (g ++ b) (both_said guard body g b (expression_says block.guard) (each_said statement_words statement_names statement_says block.body))
+
+-- the names of each item
+each_named : {X : Type 0} (ws : X → List Word) (names : X → Names) → ((x : X) → ArePrintable (ws x) → All IsIdentifier (names x)) → (xs : List X) → ArePrintable (flat_map ws xs) → All IsIdentifier (flat_map names xs)
+each_named ws names one [] ok = All-nil IsIdentifier
+each_named ws names one (x ∷ xs) ok =
+    All-append IsIdentifier (names x) (flat_map names xs) (one x (printable_front (ws x) (flat_map ws xs) ok)) (each_named ws names one xs (printable_back (ws x) (flat_map ws xs) ok))
+
+block_named : (opening : Word) (block : BlockTree) → ArePrintable (guarded_words opening block) → All IsIdentifier (block_names block)
+block_named opening block ok =
+    let rest : ArePrintable (after_opening block) = ok.1 in
+    subst (All IsIdentifier) (after_says block) (all_identifiers (after_opening block) rest)
+
+method_named : (m : MethodTree) → ArePrintable (method_words m) → All IsIdentifier (method_names m)
+method_named m ok =
+    let head = mark kinds.KeyMethod 0 ∷ ident m.name 0 ∷ mark kinds.OpenParen 0 ∷ inputs_words m.inputs in
+    let locals = mark kinds.CloseParen 0 ∷ flat_map local_words m.locals in
+    let words = guarded_words (opening_word m.asserts) in
+    let i = m.name ∷ map (λ (input : InputTree). input.name) m.inputs in
+    let l = map declared_name m.locals in
+    let b = flat_map block_names m.blocks in
+    let says = both_said head locals i l (ap (λ n. m.name ∷ n) (inputs_say m.inputs)) (one_name local_words declared_name local_says m.locals) in
+    let first = subst (All IsIdentifier) says (all_identifiers (head ++ locals) (printable_front (head ++ locals) (flat_map words m.blocks) ok)) in
+    let blocks = each_named words block_names (block_named (opening_word m.asserts)) m.blocks (printable_back (head ++ locals) (flat_map words m.blocks) ok) in
+    subst (All IsIdentifier) (append_assoc i l b) (All-append IsIdentifier (i ++ l) b first blocks)
+
+tree_named : (tree : MonitorTree) → ArePrintable (tree_words tree) → All IsIdentifier (names_in tree)
+tree_named tree ok =
+    let head = mark kinds.KeyMonitor 0 ∷ ident tree.name 0 ∷ mark kinds.OpenBrace 0 ∷ flat_map declaration_words tree.decls in
+    let methods = flat_map method_words tree.methods in
+    let d = tree.name ∷ map declared_name tree.decls in
+    let m = flat_map method_names tree.methods in
+    let both = printable_front (head ++ methods) (mark kinds.CloseBrace 0 ∷ []) ok in
+    let says : names_said head ≡ d = ap (λ n. tree.name ∷ n) (one_name declaration_words declared_name declaration_says tree.decls) in
+    All-append IsIdentifier d m (subst (All IsIdentifier) says (all_identifiers head (printable_front head methods both)))
+    (each_named method_words method_names method_named tree.methods (printable_back head methods both))
+
 pub monitor_named : (bytes : List ℕ) (tokens : List Token) (tree : MonitorTree) → Spells bytes tokens → Derives bytes tokens tree → All IsIdentifier (names_in tree)
-monitor_named bytes tokens tree spelled derived = subst (All IsIdentifier) (tree_says tree) (all_identifiers (tree_words tree) (derived_printable bytes tokens tree spelled derived))
+monitor_named bytes tokens tree spelled derived = tree_named tree (derived_printable bytes tokens tree spelled derived)
 
 -- ---- client files: what the words of a rule say
 

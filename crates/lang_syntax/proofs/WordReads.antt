@@ -1,7 +1,9 @@
 -- The readers of single words, and what the tests of the next word say.
 use Rattle.std.proofs.Common.{◌≡◌, ℕ, suc, Bool, true, false, List, [], ◌∷◌, length, get_or, Option, Some, None, Ok, Err, refl, sym, ap, ◌∙◌, inl, inr}
 use Rattle.std.specs.Prelude.{◌⊎◌}
+use Rattle.std.specs.Str.{bytes_eq}
 use Rattle.std.proofs.lemmas.Bool.{eqb-true, eq-eqb}
+use Rattle.std.proofs.lemmas.Slice.Eq.{bytes_eq-Decides}
 use Rattle.lang_tokens.specs.declared.token.TokenKind.{TokenKind}
 use Rattle.lang_tokens.specs.declared.token.TokenKind.TheVariants as kinds
 use Rattle.lang_base.specs.declared.kind.Kind.{Kind}
@@ -17,7 +19,7 @@ use Rattle.lang_cursor.specs.declared.word.PlacedNumber.{PlacedNumber}
 use Rattle.lang_tokens.specs.Words.{Word, ident, numeral, mark}
 use Rattle.lang_syntax.specs.Grammar.{Rule, IsIdent, IsNumeral, IsMarkAt, IsMark, truth_word, op_sign, sum_sign, kind_word, IsAtom}
 use Rattle.lang_cursor.specs.Arguments.{plain}
-use Rattle.lang_cursor.specs.Reading.{code, is_kind, placed_at, mark_at, ident_at, numeral_at, listed_at, truth_of, op_of, minus_of, kind_of, begins, is_listed, begins_listed, begins_ident, atom_at, plain_argument_at}
+use Rattle.lang_cursor.specs.Reading.{code, is_kind, placed_at, mark_at, ident_at, spelled_at, numeral_at, listed_at, truth_of, op_of, minus_of, kind_of, begins, is_listed, begins_listed, begins_ident, begins_spelled, atom_at, plain_argument_at}
 use Rattle.lang_syntax.specs.inner.Reading.{begins_statement, begins_item, begins_declaration}
 use Rattle.lang_syntax.proofs.Readers.{Reads, Anything, Heads, One, one_reads}
 
@@ -144,6 +146,37 @@ ident_one = record {
 
 pub ident_reads : Reads IsPlacedName ident_at Anything
 ident_reads = one_reads IsPlacedName ident_at ident_one
+
+same_letters : (letters : List ℕ) → bytes_eq letters letters ≡ true
+same_letters letters = (bytes_eq-Decides letters letters).1 refl
+
+-- a name of these letters
+pub spelled_one : (letters : List ℕ) → One (λ at. IsIdent letters at) (spelled_at letters)
+unfolding spelled_at
+spelled_one letters = record {
+  nothing = refl;
+  word = by_word;
+  again = λ at ws is. (ident letters at, is, λ rest. rw (same_letters letters) refl);
+  example = record { made = 0; words = ident letters 0 ∷ []; is = refl };
+}
+  where
+    by_test : (name : List ℕ) (at : ℕ) (t : Bool) → bytes_eq name letters ≡ t
+        → ((rest : List Word) → spelled_at letters (ident name at ∷ rest) ≡ Err (suc (length rest)))
+        ⊎ ((x : ℕ) × ((rest : List Word) → spelled_at letters (ident name at ∷ rest) ≡ Ok (x, rest)) × IsIdent letters x (ident name at ∷ []))
+    by_test name at true h = inr (at, λ rest. rw h refl, ap (λ (n : List ℕ). ident n at ∷ []) ((bytes_eq-Decides name letters).0 h))
+    by_test name at false h = inl (λ rest. rw h refl)
+
+    by_word : (w : Word) → ((rest : List Word) → spelled_at letters (w ∷ rest) ≡ Err (suc (length rest))) ⊎ ((x : ℕ) × ((rest : List Word) → spelled_at letters (w ∷ rest) ≡ Ok (x, rest)) × IsIdent letters x (w ∷ []))
+    by_word (mark k at) = inl (λ rest. refl)
+    by_word (ident name at) = by_test name at (bytes_eq name letters) refl
+    by_word (numeral value at) = inl (λ rest. refl)
+
+pub spelled_reads : (letters : List ℕ) → Reads (λ at. IsIdent letters at) (spelled_at letters) Anything
+spelled_reads letters = one_reads (λ at. IsIdent letters at) (spelled_at letters) (spelled_one letters)
+
+pub begins_letters : (letters : List ℕ) (at : ℕ) (rest : List Word) → begins_spelled letters (ident letters at ∷ rest) ≡ true
+unfolding begins_spelled
+begins_letters letters at rest = same_letters letters
 
 abbrev pub IsPlacedNumber : Rule PlacedNumber
 IsPlacedNumber n = IsNumeral n.value n.at
@@ -348,6 +381,15 @@ unfolding begins_listed
 listed_heads table = heads_of (begins_listed table) alone
   where
     alone : (w : Word) (us vs : List Word) → begins_listed table (w ∷ us) ≡ begins_listed table (w ∷ vs)
+    alone (mark k at) us vs = refl
+    alone (ident name at) us vs = refl
+    alone (numeral value at) us vs = refl
+
+pub spelled_heads : (letters : List ℕ) → Heads (begins_spelled letters)
+unfolding begins_spelled
+spelled_heads letters = heads_of (begins_spelled letters) alone
+  where
+    alone : (w : Word) (us vs : List Word) → begins_spelled letters (w ∷ us) ≡ begins_spelled letters (w ∷ vs)
     alone (mark k at) us vs = refl
     alone (ident name at) us vs = refl
     alone (numeral value at) us vs = refl

@@ -1,6 +1,6 @@
 -- The grammar of monitor files: which words are a tree's, one definition for each production.
 use Rattle.std.specs.Prelude.{◌≡◌, ℕ, zero, suc, ◌≤◌, ◌⊎◌, Bool, true, false, List, [], ◌∷◌, ◌++◌}
-use Rattle.std.specs.Prelude.{length, Option, Some, None}
+use Rattle.std.specs.Prelude.{length, codes, Option, Some, None}
 use Rattle.lang_base.specs.Limits.{FILE_BYTES, LEVELS}
 use Rattle.lang_tokens.specs.declared.token.TokenKind.{TokenKind}
 use Rattle.lang_tokens.specs.declared.token.TokenKind.TheVariants as kinds
@@ -253,12 +253,34 @@ IsGuarded block =
     ⌢ IsExpression LEVELS block.guard ⌢ IsMark kinds.CloseParen
     ⌢ IsBlock (IsStatement LEVELS) block.body
 
--- method = "method" ID "(" [input ("," input)*] ")" local* guarded guarded*
+-- asserted = "asserts" "(" expression ")" "{" statement* "}", where "asserts" is the ID of these
+-- letters
+abbrev pub ASSERTS : List ℕ
+ASSERTS = codes "asserts"
+
+abbrev pub IsAsserted : Rule BlockTree
+IsAsserted block =
+    IsIdent ASSERTS block.at ⌢ IsMark kinds.OpenParen
+    ⌢ IsExpression LEVELS block.guard ⌢ IsMark kinds.CloseParen
+    ⌢ IsBlock (IsStatement LEVELS) block.body
+
+-- x: the words of a single tree
+abbrev pub Single : {Tree : Type 0} → Rule Tree → Rule (List Tree)
+Single IsTree [] ws = ⊥
+Single IsTree (tree ∷ []) ws = IsTree tree ws
+Single IsTree (tree ∷ (next ∷ more)) ws = ⊥
+
+-- guarded guarded* | asserted
+abbrev pub AreBlocks : Bool → Rule (List BlockTree)
+AreBlocks false = OneOrMore IsGuarded
+AreBlocks true = Single IsAsserted
+
+-- method = "method" ID "(" [input ("," input)*] ")" local* (guarded guarded* | asserted)
 abbrev pub IsMethod : Rule MethodTree
 IsMethod method =
     IsMark kinds.KeyMethod ⌢ IsIdent method.name method.at ⌢ IsMark kinds.OpenParen
     ⌢ AreInputs method.inputs ⌢ IsMark kinds.CloseParen
-    ⌢ Each IsLocal method.locals ⌢ OneOrMore IsGuarded method.blocks
+    ⌢ Each IsLocal method.locals ⌢ AreBlocks method.asserts method.blocks
 
 -- monitor_file = "monitor" ID "{" declaration* method* "}"
 abbrev pub IsMonitorFile : Rule MonitorTree

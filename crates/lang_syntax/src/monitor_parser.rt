@@ -7,14 +7,14 @@ ghost use Rattle.lang_tokens.specs.Words.{words};
 ghost use Rattle.lang_syntax.specs.Grammar.{IsMonitorFile, Derives};
 ghost use Rattle.lang_syntax.specs.Fault.{AnswersEach, IsFault};
 ghost use Rattle.lang_cursor.specs.Reading.{AreTokens, Gives};
-ghost use Rattle.lang_syntax.specs.inner.Reading.{begins_declaration, blocks_at};
+ghost use Rattle.lang_syntax.specs.inner.Reading.{asserted_at, begins_declaration, blocks_at};
 ghost use Rattle.lang_syntax.specs.inner.Reading.{constant_at, declaration_at, declarations_at};
 ghost use Rattle.lang_syntax.specs.inner.Reading.{flag_at, guarded_at, head_at, input_at};
 ghost use Rattle.lang_syntax.specs.inner.Reading.{inputs_at, int_at, later_blocks_at};
 ghost use Rattle.lang_syntax.specs.inner.Reading.{later_input_at, later_inputs_at, literal_at};
-ghost use Rattle.lang_syntax.specs.inner.Reading.{local_at, locals_at, method_at, methods_at};
-ghost use Rattle.lang_syntax.specs.inner.Reading.{monitor_at, monitor_file, some_inputs_at};
-ghost use Rattle.lang_syntax.specs.inner.Reading.{variable_at};
+ghost use Rattle.lang_syntax.specs.inner.Reading.{local_at, locals_at, method_at};
+ghost use Rattle.lang_syntax.specs.inner.Reading.{method_blocks_at, methods_at, monitor_at};
+ghost use Rattle.lang_syntax.specs.inner.Reading.{monitor_file, some_inputs_at, variable_at};
 ghost use Rattle.lang_cursor.specs.Takes.{Takes};
 
 use super::statement_parser::{block, condition};
@@ -250,19 +250,44 @@ fn blocks(alloc: Global, input: &mut Cursor<'_>) -> Result<Seq<BlockTree>, Stop>
     Ok(with_first(first, later)?)
 }
 
-/// method = head local* guarded guarded*
+/// asserted = "asserts" condition block
+#[tactic(auto, unfolding(crate::specs::inner::Reading::asserted_at))]
+fn asserted(alloc: Global, input: &mut Cursor<'_>) -> Result<BlockTree, Stop>
+    ensures { Takes result input.new (asserted_at input.old) }
+{
+    let at = input.spelled(b"asserts")?;
+    let guard = condition(alloc, LEVELS, input)?;
+    let body = block(alloc, LEVELS, input)?;
+    Ok(BlockTree { at, guard, body })
+}
+
+/// (guarded guarded* | asserted), with whether it asserts
+#[tactic(auto, unfolding(crate::specs::inner::Reading::method_blocks_at))]
+fn method_blocks(alloc: Global, input: &mut Cursor<'_>) -> Result<(bool, Seq<BlockTree>), Stop>
+    ensures { Takes result input.new (method_blocks_at input.old) }
+{
+    if input.begins_spelled(b"asserts") {
+        let block = asserted(alloc, input)?;
+        return Ok((true, with_first(block, Seq::of(Vec::new(alloc)))?));
+    }
+    let blocks = blocks(alloc, input)?;
+    Ok((false, blocks))
+}
+
+/// method = head local* (guarded guarded* | asserted)
 #[tactic(auto, unfolding(crate::specs::inner::Reading::method_at))]
 fn method(alloc: Global, input: &mut Cursor<'_>) -> Result<MethodTree, Stop>
     ensures { Takes result input.new (method_at input.old) }
 {
     let (PlacedName { at, name }, inputs) = head(alloc, input)?;
     let locals = locals(alloc, input)?;
-    let blocks = blocks(alloc, input)?;
+    let (asserts, blocks) = method_blocks(alloc, input)?;
     Ok(MethodTree {
         at,
         name,
         inputs,
         locals,
+        asserts,
         blocks,
     })
 }

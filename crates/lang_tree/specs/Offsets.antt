@@ -83,6 +83,7 @@ unplaced_method method = record {
   name = method.name;
   inputs = map unplaced_input method.inputs;
   locals = map unplaced_declaration method.locals;
+  asserts = method.asserts;
   blocks = map unplaced_block method.blocks;
 }
 

@@ -36,17 +36,19 @@ pub struct InputTree {
 }
 
 /// A method: its locals, each an `Int` or a `Flag`, and its blocks, of which there is one at least.
-/// `at` is the offset of its name.
+/// One that asserts has just one, whose guard is no reason to wait: where it is false the call is
+/// refused. `at` is the offset of its name.
 #[derive(Debug, Drop)]
 pub struct MethodTree {
     pub at: u32,
     pub name: Name,
     pub inputs: Seq<InputTree>,
     pub locals: Seq<Decl>,
+    pub asserts: bool,
     pub blocks: Seq<BlockTree>,
 }
 
-/// A block of a method. `at` is the offset of its `waituntil`.
+/// A block of a method. `at` is the offset of its `waituntil`, or of its `asserts`.
 #[derive(Debug, Drop)]
 pub struct BlockTree {
     pub at: u32,

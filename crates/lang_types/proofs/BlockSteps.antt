@@ -130,8 +130,9 @@ conditions_both before between all [] others [] those are also = subst (λ (list
 conditions_both before between all [] others (block ∷ these) those are also = absurd are
 conditions_both before between all (placed ∷ some) others [] those are also = absurd are
 conditions_both before between all (placed ∷ some) others (block ∷ these) those are also = elim are [
-  | inl old ↦ inl (old.0, old.1, conditions_both before between all some others these those old.2 also)
-  | inr new ↦ inr (new.0, new.1, conditions_both (before ++ condition_of block placed.block ∷ []) between all some others these those new.2 also)
+  | inl old ↦ inl (old.0, old.1, conditions_both before between all some others these those old.2 also, old.3)
+  | inr (inl new) ↦ inr (inl (new.0, new.1, conditions_both (before ++ condition_of block placed.block ∷ []) between all some others these those new.2 also, new.3))
+  | inr (inr none) ↦ inr (inr (none.0, none.1, conditions_both before between all some others these those none.2 also))
 ]
 
 added_both : (declared : List Decl) (some others : List PlacedBlock) (old middle new : List Block) (before between all : List Condition)
@@ -147,18 +148,22 @@ pub none_added : (declared : List Decl) (old new : List Block) (before all : Lis
 none_added declared old new before all same also = record { more = []; after_old = same ∙ sym (append-nil old); blocks_are = tt; conditions_are = also }
 
 one_added : (declared : List Decl) (placed : PlacedBlock) (old new : List Block) (block : Block) (before all : List Condition) → new ≡ old ++ block ∷ []
-    → IsBlockOf (scope_of declared placed.method) placed.number placed.block block → HasNumber placed.block block before all → AreAdded declared (placed ∷ []) old new before all
+    → IsBlockOf (scope_of declared placed.method) placed.number placed.block block → HasNumber placed.method.asserts placed.block block before all → AreAdded declared (placed ∷ []) old new before all
 one_added declared placed old new block before all is block_is numbered = record {
   more = block ∷ [];
   after_old = is;
   blocks_are = (block_is, tt);
-  conditions_are = elim numbered [ inl known ↦ inl (known.0, known.1, known.2) | inr new ↦ inr (new.0, new.1, new.2) ];
+  conditions_are = elim numbered [
+    | inl none ↦ inr (inr (none.1, none.0, none.2))
+    | inr (asserts, inl known) ↦ inl (known.0, known.1, known.2, asserts)
+    | inr (asserts, inr new) ↦ inr (inl (new.0, new.1, new.2, asserts))
+  ];
 }
 
 -- one turn of the loop over a method's blocks
 pub block_more : (declared : List Decl) (number : ℕ) (method : MethodTree) (blocks : List BlockTree) (i : ℕ) (tree : BlockTree) (block : Block) (old middle new : List Block) (before between all : List Condition) (entries : List Entry)
     → i < length blocks → tree ≡ get_or blocks i tree → entries ≡ scope_of declared method → AreAdded declared (placed_in number method (take i blocks)) old middle before between
-    → IsBlockOf entries number tree block → HasNumber tree block between all → new ≡ middle ++ block ∷ [] → AreAdded declared (placed_in number method (take (i + 1) blocks)) old new before all
+    → IsBlockOf entries number tree block → HasNumber method.asserts tree block between all → new ≡ middle ++ block ∷ [] → AreAdded declared (placed_in number method (take (i + 1) blocks)) old new before all
 block_more declared number method blocks i tree block old middle new before between all entries lt is scope_is so_far made numbered next =
     let block_is = subst (λ (scope : List Entry). IsBlockOf scope number tree block) scope_is made in
     let placed : PlacedBlock = record { number = number; method = method; block = tree } in

@@ -1,6 +1,7 @@
 -- Conditions are the classes of equal guards, numbered from 1 by their first blocks.
-use Rattle.std.proofs.Common.{◌≡◌, ◌≢◌, ℕ, zero, suc, ◌+◌, ◌-◌, ◌<◌, ◌≤◌, ◌⊎◌, List, [], ◌∷◌, ◌++◌, length, refl, sym, ap, subst, arith, inl, inr, append_assoc, length-append}
-use Rattle.std.specs.Prelude.{slice_get, IsSomeAnd}
+use Rattle.std.proofs.Common.{◌≡◌, ◌≢◌, ℕ, zero, suc, ◌+◌, ◌-◌, ◌<◌, ◌≤◌, ◌⊎◌, ◌↔◌, true, false, List, [], ◌∷◌, ◌++◌, length, refl, sym, ap, subst, ◌∙◌, arith, inl, inr, append_assoc, length-append}
+use Rattle.std.specs.Prelude.{Some, slice_get, IsSomeAnd}
+use Rattle.std.proofs.lemmas.Bool.{true≢false}
 use Rattle.std.specs.List.{All, AllPairs}
 use Rattle.std.proofs.Math.Seq.{take-append_seam}
 use Rattle.std.proofs.lemmas.List.{append-nil, take-append-le}
@@ -12,6 +13,7 @@ use Rattle.lang_monitor.specs.declared.monitor.Block.{Block}
 use Rattle.lang_monitor.specs.declared.monitor.Condition.{Condition}
 use Rattle.lang_monitor.specs.Conditions.{HasCondition, HasFirstBlock, IsDescribed}
 use Rattle.lang_printer.proofs.ExpressionLines.{expression_in_line}
+use Rattle.std.proofs.lemmas.Option.{same_Some}
 use Rattle.lang_types.specs.Typed.{AreConditions, PlacedBlock, condition_of}
 
 -- ---- what stands at a place of a list, as the list grows
@@ -37,7 +39,8 @@ kept before [] (block ∷ blocks) all are index P has = absurd are
 kept before (placed ∷ more) [] all are index P has = absurd are
 kept before (placed ∷ more) (block ∷ blocks) all are index P has = elim are [
   | inl old ↦ kept before more blocks all old.2 index P has
-  | inr new ↦ kept (before ++ condition_of block placed.block ∷ []) more blocks all new.2 index P (earlier_has before (condition_of block placed.block ∷ []) index P has)
+  | inr (inl new) ↦ kept (before ++ condition_of block placed.block ∷ []) more blocks all new.2 index P (earlier_has before (condition_of block placed.block ∷ []) index P has)
+  | inr (inr none) ↦ kept before more blocks all none.2 index P has
 ]
 
 -- ---- each block's condition has its guard
@@ -46,10 +49,13 @@ new_condition : (before : List Condition) (placed : PlacedBlock) (block : Block)
 new_condition before placed block more blocks all number are =
     let index : block.condition - 1 ≡ length before = omega arith in
     let same = λ (condition : Condition). condition.guard ≡ block.guard in
-    (omega arith, subst (λ (i : ℕ). IsSomeAnd (slice_get all i) same) (sym index) (kept (before ++ condition_of block placed.block ∷ []) more blocks all are (length before) same (last_has before (condition_of block placed.block) same refl)))
+    λ waits. subst (λ (i : ℕ). IsSomeAnd (slice_get all i) same) (sym index) (kept (before ++ condition_of block placed.block ∷ []) more blocks all are (length before) same (last_has before (condition_of block placed.block) same refl))
 
 old_condition : (before : List Condition) (block : Block) (more : List PlacedBlock) (blocks : List Block) (all : List Condition) → IsSomeAnd (slice_get before (block.condition - 1)) (λ condition. condition.guard ≡ block.guard) → block.condition ≡ (block.condition - 1) + 1 → AreConditions before more blocks all → HasCondition all block
-old_condition before block more blocks all has number are = (omega arith, kept before more blocks all are (block.condition - 1) (λ (condition : Condition). condition.guard ≡ block.guard) has)
+old_condition before block more blocks all has number are = λ waits. kept before more blocks all are (block.condition - 1) (λ (condition : Condition). condition.guard ≡ block.guard) has
+
+no_condition : (all : List Condition) (block : Block) → block.condition ≡ 0 → HasCondition all block
+no_condition all block none = λ waits. absurd (omega arith)
 
 pub typed_conditions : (before : List Condition) (more : List PlacedBlock) (blocks : List Block) (all : List Condition) → AreConditions before more blocks all → All (HasCondition all) blocks
 typed_conditions before [] [] all are = All-nil (HasCondition all)
@@ -57,7 +63,8 @@ typed_conditions before [] (block ∷ blocks) all are = absurd are
 typed_conditions before (placed ∷ more) [] all are = absurd are
 typed_conditions before (placed ∷ more) (block ∷ blocks) all are = elim are [
   | inl old ↦ All-cons (HasCondition all) block blocks (old_condition before block more blocks all old.0 old.1 old.2) (typed_conditions before more blocks all old.2)
-  | inr new ↦ All-cons (HasCondition all) block blocks (new_condition before placed block more blocks all new.1 new.2) (typed_conditions (before ++ condition_of block placed.block ∷ []) more blocks all new.2)
+  | inr (inl new) ↦ All-cons (HasCondition all) block blocks (new_condition before placed block more blocks all new.1 new.2) (typed_conditions (before ++ condition_of block placed.block ∷ []) more blocks all new.2)
+  | inr (inr none) ↦ All-cons (HasCondition all) block blocks (no_condition all block none.0) (typed_conditions before more blocks all none.2)
 ]
 
 -- ---- there are no more conditions than blocks
@@ -68,10 +75,11 @@ no_more before [] (block ∷ blocks) all are = absurd are
 no_more before (placed ∷ more) [] all are = absurd are
 no_more before (placed ∷ more) (block ∷ blocks) all are = elim are [
   | inl old ↦ let rest = no_more before more blocks all old.2 in omega arith
-  | inr new ↦
+  | inr (inl new) ↦
       let rest = no_more (before ++ condition_of block placed.block ∷ []) more blocks all new.2 in
       let count = length-append before (condition_of block placed.block ∷ []) in
       omega arith
+  | inr (inr none) ↦ let rest = no_more before more blocks all none.2 in omega arith
 ]
 
 -- ---- different conditions have different guards
@@ -85,7 +93,8 @@ all_different before [] (block ∷ blocks) all are different = absurd are
 all_different before (placed ∷ more) [] all are different = absurd are
 all_different before (placed ∷ more) (block ∷ blocks) all are different = elim are [
   | inl old ↦ all_different before more blocks all old.2 different
-  | inr new ↦ all_different (before ++ condition_of block placed.block ∷ []) more blocks all new.2 (all_pairs_push Differ before (condition_of block placed.block) different new.0)
+  | inr (inl new) ↦ all_different (before ++ condition_of block placed.block ∷ []) more blocks all new.2 (all_pairs_push Differ before (condition_of block placed.block) different new.0)
+  | inr (inr none) ↦ all_different before more blocks all none.2 different
 ]
 
 -- ---- what conditions say of their guards
@@ -101,10 +110,11 @@ all_described before (placed ∷ more) (block ∷ blocks) all are shown describe
     let later = All-tail ShowsNames placed more shown in
     elim are [
       | inl old ↦ all_described before more blocks all old.2 later described
-      | inr new ↦
+      | inr (inl new) ↦
           let here : IsDescribed (condition_of block placed.block) = record { inputs = refl; line = expression_in_line placed.block.guard (All-head ShowsNames placed more shown) } in
           all_described (before ++ condition_of block placed.block ∷ []) more blocks all new.2 later
           (All-append IsDescribed before (condition_of block placed.block ∷ []) described (All-cons IsDescribed (condition_of block placed.block) [] here (All-nil IsDescribed)))
+      | inr (inr none) ↦ all_described before more blocks all none.2 later described
     ]
 
 -- ---- conditions are in the order of their first blocks
@@ -166,13 +176,40 @@ all_in_order before (placed ∷ more) (block ∷ blocks) earlier all are so_far 
       | inl old ↦
           let has = some_within before (block.condition - 1) _ old.0 in
           subst Whole parts (all_in_order before more blocks (earlier ++ block ∷ []) all old.2 (and_old earlier (length before) block so_far (omega arith)))
-      | inr new ↦
+      | inr (inl new) ↦
           let count = length-append before (condition_of block placed.block ∷ []) in
           let next = and_new earlier (length before) block so_far new.1 in
           subst Whole parts (all_in_order (before ++ condition_of block placed.block ∷ []) more blocks (earlier ++ block ∷ []) all new.2 (subst (AreInOrder (earlier ++ block ∷ [])) (sym count) next))
+      | inr (inr none) ↦
+          subst Whole parts (all_in_order before more blocks (earlier ++ block ∷ []) all none.2 (and_old earlier (length before) block so_far (let zero_is = none.0 in omega arith)))
     ]
 
 pub in_order : (more : List PlacedBlock) (blocks : List Block) (all : List Condition) → AreConditions [] more blocks all → (number : ℕ) → 1 ≤ number → number ≤ length all → HasFirstBlock blocks number
 in_order more blocks all are =
     let none : AreInOrder [] 0 = record { within = All-nil (λ (block : Block). block.condition ≤ 0); first = λ number one few. absurd (omega arith) } in
     (all_in_order [] more blocks [] all are none).first
+
+-- ---- a block has no condition exactly where its method asserts
+
+abbrev pub WaitsAs : PlacedBlock → Block → Type 0
+WaitsAs placed block = (block.condition ≡ 0) ↔ (placed.method.asserts ≡ true)
+
+waits_with : (placed : PlacedBlock) (block : Block) (index : ℕ) → block.condition ≡ index + 1 → placed.method.asserts ≡ false → WaitsAs placed block
+waits_with placed block index is waits = (λ none. absurd (omega arith), λ asserts. absurd (true≢false (sym asserts ∙ waits)))
+
+pub waits_at : (before : List Condition) (row : List PlacedBlock) (blocks : List Block) (all : List Condition) → AreConditions before row blocks all
+    → (place : ℕ) (placed : PlacedBlock) → slice_get row place ≡ Some placed → IsSomeAnd (slice_get blocks place) (WaitsAs placed)
+waits_at before [] blocks all are place placed is = absurd cc
+waits_at before (first ∷ row) [] all are place placed is = absurd are
+waits_at before (first ∷ row) (block ∷ blocks) all are zero placed is =
+    let same : first ≡ placed = same_Some first placed is in
+    subst (λ (one : PlacedBlock). WaitsAs one block) same (elim are [
+      | inl old ↦ waits_with first block (block.condition - 1) old.1 old.3
+      | inr (inl new) ↦ waits_with first block (length before) new.1 new.3
+      | inr (inr none) ↦ (λ zero_is. none.1, λ asserts. none.0)
+    ])
+waits_at before (first ∷ row) (block ∷ blocks) all are (suc place) placed is = elim are [
+  | inl old ↦ waits_at before row blocks all old.2 place placed is
+  | inr (inl new) ↦ waits_at (before ++ condition_of block first.block ∷ []) row blocks all new.2 place placed is
+  | inr (inr none) ↦ waits_at before row blocks all none.2 place placed is
+]

@@ -1,6 +1,6 @@
 -- What is typed from a tree that breaks no rule is a monitor.
 use Rattle.std.proofs.Common.{◌≡◌, ℕ, zero, suc, ◌+◌, ◌<◌, ◌≤◌, true, List, [], ◌∷◌, length, map, Some, refl, sym, ap, subst, ◌∙◌, arith}
-use Rattle.std.specs.Prelude.{slice_get, IsSomeAnd}
+use Rattle.std.specs.Prelude.{None, Option, slice_get, IsSomeAnd}
 use Rattle.std.specs.List.{All, flat_map}
 use Rattle.std.proofs.lemmas.List.{length-map}
 use Rattle.std.proofs.lemmas.List.Elements.{All-cons, All-head, All-nil, All-tail}
@@ -23,8 +23,8 @@ use Rattle.lang_monitor.specs.declared.monitor.Condition.{Condition}
 use Rattle.lang_monitor.specs.Conditions.{IsDescribed}
 use Rattle.lang_monitor.specs.MonitorParts.{IsBlockOf, IsMethod, IsMonitor, IsOfKind, IsOwned, MonitorParts, Places, fits_block, kind_of, kinds_in, kinds_of, locals_in, method_places}
 use Rattle.lang_types.specs.Typed.{AreBlocksOf, AreConditions, IsPlaced, IsTyped, PlacedBlock, blocks_from, field_of, method_of, methods_from, starts_of}
-use Rattle.lang_types.specs.inner.Making.{HasBlock, HasSmallParts}
-use Rattle.lang_types.proofs.ConditionClasses.{all_described, all_different, in_order, no_more, typed_conditions}
+use Rattle.lang_types.specs.inner.Making.{HasBlocks, HasSmallParts}
+use Rattle.lang_types.proofs.ConditionClasses.{WaitsAs, all_described, all_different, in_order, no_more, typed_conditions, waits_at}
 use Rattle.lang_types.proofs.FineTrees.{IsFine, IsFineMethod, IsFinePlaced, all_blocks_fine, append_none, constants_and_fields, fields_counted, fine_method, fine_tree, none_each, silent_before}
 use Rattle.lang_types.proofs.MonitorNames.{identified, typed_distinct}
 use Rattle.lang_types.proofs.PlacedBlocks.{as_many_blocks, few_from, follow_in_turn, has_block, has_tree, method_at, row_at, some_weaker}
@@ -68,7 +68,7 @@ some_within (x ∷ xs) (suc index) less = some_within xs index (omega arith)
 -- the parts of a monitor that is typed from a tree that breaks no rule
 record IsSoundTyped (tree : MonitorTree) (monitor : MonitorParts) : Type 0 where
   fine : IsFine tree
-  blocks : All HasBlock tree.methods
+  blocks : All HasBlocks tree.methods
   typed : IsTyped tree monitor
 
 places_are : (tree : MonitorTree) (monitor : MonitorParts) (number first : ℕ) (method : MethodTree) → IsTyped tree monitor → slice_get monitor.methods number ≡ Some (method_of first method)
@@ -84,15 +84,20 @@ scope_fit declared method less fine = record { fits = scope_fits declared method
 
 row_is_block : (tree : MonitorTree) (monitor : MonitorParts) (number first place : ℕ) (method : MethodTree) (row : BlockTree) (block : Block) → IsSoundTyped tree monitor
     → slice_get monitor.methods number ≡ Some (method_of first method) → slice_get method.blocks place ≡ Some row → IsFinePlaced tree.decls (record { number = number; method = method; block = row })
-    → IsPlaced tree.decls (record { number = number; method = method; block = row }) block → IsBlockOf monitor number place (method_of first method) block
-row_is_block tree monitor number first place method row block sound is here fine placed =
+    → IsPlaced tree.decls (record { number = number; method = method; block = row }) block → WaitsAs (record { number = number; method = method; block = row }) block → IsBlockOf monitor number place (method_of first method) block
+row_is_block tree monitor number first place method row block sound is here fine placed waits =
     let scope = scope_of tree.decls method in
     record {
       of = placed.method_number;
       fits = subst (λ (places : Places). fits_block places block ≡ true) (sym (places_are tree monitor number first method sound.typed is))
           (block_fits (scope_places tree.decls method) scope number row block (scope_fit tree.decls method sound.fine.fields fine.method) (record { guard = fine.guard; body = fine.body }) placed);
       answers = λ less. placed.result ∙ silent_body scope row.body (silent_before scope method.blocks place row fine.method.early here less);
+      waits = waits;
     }
+
+both_hold : {X : Type 0} (found : Option X) (P Q : X → Type 0) → IsSomeAnd found P → IsSomeAnd found Q → IsSomeAnd found (λ x. P x × Q x)
+both_hold None P Q one other = one
+both_hold (Some x) P Q one other = (one, other)
 
 all_at : {X : Type 0} (P : X → Type 0) (xs : List X) (index : ℕ) (x : X) → All P xs → slice_get xs index ≡ Some x → P x
 all_at P [] index x each is = absurd cc
@@ -106,14 +111,15 @@ method_is tree monitor number method sound is =
     let first = 0 + at.earlier in
     let fine = fine_method tree.decls own (all_at (λ method. method_faults tree.decls method ≡ []) tree.methods number own (none_each (method_faults tree.decls) tree.methods sound.fine.each) at.is) in
     let here : slice_get monitor.methods number ≡ Some (method_of first own) = is ∙ ap (λ m. Some m) at.made in
-    let count = all_at HasBlock tree.methods number own sound.blocks at.is in
+    let have = all_at HasBlocks tree.methods number own sound.blocks at.is in
     let starts = few_starts own.locals in
     let few_locals = fine.locals in
     subst (IsMethod monitor number) (sym at.made) (record {
       few_inputs = rw length-map fine.inputs;
       few_locals = omega arith;
-      some = count;
+      some = have.some;
       few = fine.few_blocks;
+      alone = have.alone;
       blocks = λ place less.
           let row = some_within own.blocks place less in
           let placed : PlacedBlock = record { number = number; method = own; block = row.0 } in
@@ -122,9 +128,12 @@ method_is tree monitor number method sound is =
           let stands : slice_get (blocks_from 0 tree.methods) (at.earlier + place) ≡ Some placed = at.rows place row.0 row.1 ∙ ap (λ (n : ℕ). Some (record { number = n; method = own; block = row.0 })) its in
           let each = all_at (IsFinePlaced tree.decls) (blocks_from 0 tree.methods) (at.earlier + place) placed (all_blocks_fine tree.decls 0 tree.methods sound.fine.each) stands in
           let has = has_block tree.decls (blocks_from 0 tree.methods) monitor.blocks sound.typed.blocks (at.earlier + place) placed stands in
+          let waits = waits_at [] (blocks_from 0 tree.methods) monitor.blocks monitor.conditions sound.typed.conditions (at.earlier + place) placed stands in
+          let found = slice_get monitor.blocks (at.earlier + place) in
           subst (λ (n : ℕ). IsSomeAnd (slice_get monitor.blocks n) (IsBlockOf monitor number place (method_of first own))) same
-          (some_weaker (slice_get monitor.blocks (at.earlier + place)) (IsPlaced tree.decls placed) (IsBlockOf monitor number place (method_of first own))
-          (λ block is_placed. row_is_block tree monitor number first place own row.0 block sound here row.1 each is_placed) has);
+          (some_weaker found (λ block. IsPlaced tree.decls placed block × WaitsAs placed block) (IsBlockOf monitor number place (method_of first own))
+          (λ block both. row_is_block tree monitor number first place own row.0 block sound here row.1 each both.0 both.1)
+          (both_hold found (IsPlaced tree.decls placed) (WaitsAs placed) has waits));
     })
 
 block_owned : (tree : MonitorTree) (monitor : MonitorParts) (number : ℕ) (block : Block) → IsTyped tree monitor → slice_get monitor.blocks number ≡ Some block → IsOwned monitor.methods number block
@@ -150,7 +159,7 @@ few_each declared (method ∷ methods) none =
 
 -- What is typed from a tree that breaks no rule, whose names are identifiers and whose methods have
 -- blocks, keeps the rule of a monitor.
-pub typed_is_monitor : (tree : MonitorTree) (monitor : MonitorParts) → faults_of tree ≡ [] → All IsIdentifier (names_in tree) → All HasBlock tree.methods → IsTyped tree monitor → IsMonitor monitor
+pub typed_is_monitor : (tree : MonitorTree) (monitor : MonitorParts) → faults_of tree ≡ [] → All IsIdentifier (names_in tree) → All HasBlocks tree.methods → IsTyped tree monitor → IsMonitor monitor
 typed_is_monitor tree monitor none named have typed =
     let fine = fine_tree tree none in
     let are = identified tree named in
@@ -199,7 +208,7 @@ made_is_typed tree declared methods name fields made blocks conditions declared_
 pub made_is_monitor : (tree : MonitorTree) (declared : List Decl) (methods : List MethodTree) (name : List ℕ) (fields : List Field) (made : List Method) (blocks : List Block) (conditions : List Condition)
     → faults_of tree ≡ []
     → All IsIdentifier (names_in tree)
-    → All HasBlock tree.methods
+    → All HasBlocks tree.methods
     → declared ≡ tree.decls
     → methods ≡ tree.methods
     → name ≡ tree.name

@@ -1,6 +1,7 @@
 -- A tree that is parsed from a short file has few declarations, inputs and locals, and each of its
--- methods has a block.
-use Rattle.std.proofs.Common.{ℕ, ◌+◌, ◌≤◌, List, [], ◌∷◌, length, All, sym, ap, subst, ◌∙◌, arith, length-append}
+-- methods has a block, and just one where it asserts.
+use Rattle.std.proofs.Common.{◌≡◌, ℕ, ◌+◌, ◌≤◌, Bool, true, false, refl, List, [], ◌∷◌, length, All, sym, ap, subst, ◌∙◌, arith, length-append}
+use Rattle.std.proofs.lemmas.Bool.{true≢false}
 use Rattle.std.proofs.lemmas.List.{length-map}
 use Rattle.std.proofs.lemmas.List.Elements.{All-nil, All-cons}
 use Rattle.lang_tokens.specs.declared.token.TokenKind.{TokenKind}
@@ -11,14 +12,15 @@ use Rattle.lang_tokens.specs.Shapes as shapes
 use Rattle.lang_tree.specs.declared.tree.Decl.{Decl}
 use Rattle.lang_tree.specs.declared.tree.Decl.TheVariants as decls
 use Rattle.lang_tree.specs.declared.tree.InputTree.{InputTree}
+use Rattle.lang_tree.specs.declared.tree.BlockTree.{BlockTree}
 use Rattle.lang_tree.specs.declared.tree.MethodTree.{MethodTree}
 use Rattle.lang_tree.specs.declared.tree.MonitorTree.{MonitorTree}
 use Rattle.lang_tokens.specs.Words.{Word, word, words}
 use Rattle.lang_tokens.specs.Spelling.{IsShape, Piece, AreCut, token, tokens_from, Spells}
 use Rattle.lang_tokens.proofs.Signs.{sign_begins}
-use Rattle.lang_syntax.specs.Grammar.{Rule, ◌⌢◌, Each, OneOrMore, IsIdent, IsMark, IsLiteral, IsDeclaration, IsLocal, IsGuarded, IsInput, AreInputs, IsMethod, IsMonitorFile, IsParsed, truth_word, kind_word}
+use Rattle.lang_syntax.specs.Grammar.{Rule, ◌⌢◌, Each, OneOrMore, Single, AreBlocks, IsIdent, IsMark, IsLiteral, IsDeclaration, IsLocal, IsGuarded, IsAsserted, IsInput, AreInputs, IsMethod, IsMonitorFile, IsParsed, truth_word, kind_word}
 use Rattle.lang_rules.specs.Rules.{HasFewNames}
-use Rattle.lang_types.specs.inner.Making.{HasBlock}
+use Rattle.lang_types.specs.inner.Making.{HasBlocks}
 
 -- ---- tokens and bytes
 
@@ -115,7 +117,7 @@ takes_local (decls.Flag at name value) = in_first (IsMark kinds.KeyLocal) (IsDec
 
 -- what comes after a method's inputs
 abbrev AfterInputs : MethodTree → List Word → Type 0
-AfterInputs method = IsMark kinds.CloseParen ⌢ Each IsLocal method.locals ⌢ OneOrMore IsGuarded method.blocks
+AfterInputs method = IsMark kinds.CloseParen ⌢ Each IsLocal method.locals ⌢ AreBlocks method.asserts method.blocks
 
 -- what takes so many words after the name of a method makes the method take as many
 method_takes : (method : MethodTree) (count : ℕ) → Takes (AreInputs method.inputs ⌢ AfterInputs method) count → Takes (IsMethod method) count
@@ -130,8 +132,8 @@ takes_as_many_inputs method = method_takes method (length method.inputs) (in_fir
 takes_as_many_locals : (method : MethodTree) → Takes (IsMethod method) (length method.locals)
 takes_as_many_locals method =
     method_takes method (length method.locals) (in_second (AreInputs method.inputs) (AfterInputs method) (length method.locals)
-    (in_second (IsMark kinds.CloseParen) (Each IsLocal method.locals ⌢ OneOrMore IsGuarded method.blocks) (length method.locals)
-    (in_first (Each IsLocal method.locals) (OneOrMore IsGuarded method.blocks) (length method.locals) (takes_each IsLocal takes_local method.locals))))
+    (in_second (IsMark kinds.CloseParen) (Each IsLocal method.locals ⌢ AreBlocks method.asserts method.blocks) (length method.locals)
+    (in_first (Each IsLocal method.locals) (AreBlocks method.asserts method.blocks) (length method.locals) (takes_each IsLocal takes_local method.locals))))
 
 methods_take : (count : MethodTree → ℕ) → ((method : MethodTree) → Takes (IsMethod method) (count method)) → (limit : ℕ) (methods : List MethodTree) (ws : List Word) → Each IsMethod methods ws → length ws ≤ limit
     → All (λ method. count method ≤ limit) methods
@@ -147,18 +149,31 @@ one_at_least : {Tree : Type 0} (IsTree : Rule Tree) (trees : List Tree) (ws : Li
 one_at_least IsTree [] ws is = absurd is
 one_at_least IsTree (tree ∷ trees) ws is = omega arith
 
-method_has : (method : MethodTree) (ws : List Word) → IsMethod method ws → HasBlock method
+single_is_one : {Tree : Type 0} (IsTree : Rule Tree) (trees : List Tree) (ws : List Word) → Single IsTree trees ws → length trees ≡ 1
+single_is_one IsTree [] ws is = absurd is
+single_is_one IsTree (tree ∷ []) ws is = refl
+single_is_one IsTree (tree ∷ (next ∷ more)) ws is = absurd is
+
+some_blocks : (asserts : Bool) (blocks : List BlockTree) (ws : List Word) → AreBlocks asserts blocks ws → 1 ≤ length blocks
+some_blocks false blocks ws is = one_at_least IsGuarded blocks ws is
+some_blocks true blocks ws is = let one = single_is_one IsAsserted blocks ws is in omega arith
+
+one_asserts : (asserts : Bool) (blocks : List BlockTree) (ws : List Word) → AreBlocks asserts blocks ws → asserts ≡ true → length blocks ≡ 1
+one_asserts false blocks ws is asserts = absurd (true≢false (sym asserts))
+one_asserts true blocks ws is asserts = single_is_one IsAsserted blocks ws is
+
+method_has : (method : MethodTree) (ws : List Word) → IsMethod method ws → HasBlocks method
 method_has method ws is =
     let named = is.3 in
     let opened = named.3 in
     let taken = opened.3 in
     let closed = taken.3 in
     let locals = closed.3 in
-    one_at_least IsGuarded method.blocks locals.1 locals.3
+    record { some = some_blocks method.asserts method.blocks locals.1 locals.3; alone = one_asserts method.asserts method.blocks locals.1 locals.3 }
 
-methods_have : (methods : List MethodTree) (ws : List Word) → Each IsMethod methods ws → All HasBlock methods
-methods_have [] ws each = All-nil HasBlock
-methods_have (method ∷ methods) ws each = All-cons HasBlock method methods (method_has method each.0 each.2) (methods_have methods each.1 each.3)
+methods_have : (methods : List MethodTree) (ws : List Word) → Each IsMethod methods ws → All HasBlocks methods
+methods_have [] ws each = All-nil HasBlocks
+methods_have (method ∷ methods) ws each = All-cons HasBlocks method methods (method_has method each.0 each.2) (methods_have methods each.1 each.3)
 
 -- ---- files
 
@@ -167,7 +182,7 @@ record IsSmall (tree : MonitorTree) (limit : ℕ) : Type 0 where
   declared : length tree.decls ≤ limit
   taken : All (λ method. length method.inputs ≤ limit) tree.methods
   locals : All (λ method. length method.locals ≤ limit) tree.methods
-  blocks : All HasBlock tree.methods
+  blocks : All HasBlocks tree.methods
 
 file_small : (tree : MonitorTree) (ws : List Word) (limit : ℕ) → IsMonitorFile tree ws → length ws ≤ limit → IsSmall tree limit
 file_small tree ws limit file short =
@@ -201,6 +216,6 @@ parsed_is_small tree parsed =
     let small = parsed_small tree parsed in
     record { declared = small.declared; taken = small.taken; locals = small.locals }
 
--- each method of a parsed tree has a block
-pub parsed_has_blocks : (tree : MonitorTree) → IsParsed tree → All HasBlock tree.methods
+-- each method of a parsed tree has a block, and just one where it asserts
+pub parsed_has_blocks : (tree : MonitorTree) → IsParsed tree → All HasBlocks tree.methods
 parsed_has_blocks tree parsed = (parsed_small tree parsed).blocks

@@ -1,6 +1,6 @@
 -- The monitor that a tree stands for.
-use Rattle.std.specs.Prelude.{◌≡◌, ℕ, ◌+◌, ◌-◌, ◌⊎◌, ℤ, pos, List, [], ◌∷◌, ◌++◌, length, map, All}
-use Rattle.std.specs.Prelude.{Option, Some, None, slice_get, IsSomeAnd}
+use Rattle.std.specs.Prelude.{◌≡◌, ℕ, ◌+◌, ◌-◌, ◌⊎◌, ℤ, pos, true, false, List, [], ◌∷◌, ◌++◌, length}
+use Rattle.std.specs.Prelude.{map, All, Option, Some, None, slice_get, IsSomeAnd}
 use Rattle.std.specs.List.{flat_map}
 use Rattle.lang_tree.specs.declared.tree.Lit.{Lit}
 use Rattle.lang_tree.specs.declared.tree.Decl.{Decl}
@@ -57,6 +57,7 @@ method_of number method = record {
   name = method.name;
   inputs = map (λ input. input.kind) method.inputs;
   locals = starts_of method.locals;
+  asserts = method.asserts;
   first = number;
   count = length method.blocks;
 }
@@ -148,7 +149,7 @@ AreBlocksOf declared (placed ∷ more) (block ∷ blocks) =
     IsPlaced declared placed block × AreBlocksOf declared more blocks
 AreBlocksOf declared some blocks = ⊥
 
--- ---- conditions: classes of equal guards, numbered from 1 by their first block
+-- ---- conditions: classes of equal guards that are waited for, numbered from 1 by first blocks
 
 abbrev pub condition_of : Block → BlockTree → Condition
 condition_of block tree =
@@ -159,15 +160,19 @@ condition_of block tree =
     }
 
 -- The block has a condition that was there, or the new one after them, where none of them has its
--- guard.
+-- guard, or, where its method asserts, none, and the number 0.
 abbrev pub AreConditions : List Condition → List PlacedBlock → List Block → List Condition → Type 0
 AreConditions before [] [] all = all ≡ before
 AreConditions before (placed ∷ more) (block ∷ blocks) all =
     (IsSomeAnd (slice_get before (block.condition - 1)) (λ condition. condition.guard ≡ block.guard)
-    × (block.condition ≡ (block.condition - 1) + 1) × AreConditions before more blocks all)
-    ⊎ (All (λ condition. condition.guard ≡ block.guard → ⊥) before
+    × (block.condition ≡ (block.condition - 1) + 1) × AreConditions before more blocks all
+    × (placed.method.asserts ≡ false))
+    ⊎ ((All (λ condition. condition.guard ≡ block.guard → ⊥) before
     × (block.condition ≡ length before + 1)
-    × AreConditions (before ++ condition_of block placed.block ∷ []) more blocks all)
+    × AreConditions (before ++ condition_of block placed.block ∷ []) more blocks all
+    × (placed.method.asserts ≡ false))
+    ⊎ ((block.condition ≡ 0) × (placed.method.asserts ≡ true)
+    × AreConditions before more blocks all))
 AreConditions before some blocks all = ⊥
 
 -- the monitor has the tree's name, fields, methods, blocks and conditions

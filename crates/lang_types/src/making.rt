@@ -5,7 +5,7 @@ ghost use Rattle.lang_base.specs.Identifiers.{IsIdentifier};
 ghost use Rattle.lang_tree.specs.Names.{names_in};
 ghost use Rattle.lang_rules.specs.Rules.{faults_of};
 ghost use Rattle.lang_types.specs.Typed.{IsTyped};
-ghost use Rattle.lang_types.specs.inner.Making.{HasBlock};
+ghost use Rattle.lang_types.specs.inner.Making.{HasBlocks};
 
 mod blocks;
 mod conditions;
@@ -21,11 +21,11 @@ use methods::methods_of;
 use std::alloc::{AllocError, Global};
 
 /// The monitor that a tree of identifiers stands for, where the tree breaks no rule and each of its
-/// methods has a block. It fails only for want of memory.
+/// methods has a block, and just one where it asserts. It fails only for want of memory.
 pub(crate) fn monitor_of(alloc: Global, tree: &MonitorTree) -> Result<Monitor, AllocError>
     requires fine { faults_of tree.now ≡ [] }
     requires names { All IsIdentifier (names_in tree.now) }
-    requires blocks { All HasBlock tree.now.methods }
+    requires blocks { All HasBlocks tree.now.methods }
     ensures { IfOk result (λ monitor. IsTyped tree.now monitor) }
 {
     let decls = tree.decls.items();

@@ -22,12 +22,11 @@ use Rattle.machine_events.specs.Configurations.{System, Standing}
 use Rattle.machine_events.specs.Pending.{sees_to, SomeStands, seeing, IsEnough}
 use Rattle.machine_events.specs.Laws.{HasLawfulPlan, HasCountingPlan}
 use Rattle.machine_events.proofs.Places.{truth_any}
-use Rattle.machine_events.proofs.Facing.{all_at, is_some_and}
+use Rattle.machine_events.proofs.Facing.{own_guard}
 use Rattle.machine_events.proofs.Seeing.{chain, some_counted}
 use Rattle.machine_events.proofs.Valuations.{without_inputs}
 use Rattle.machine_events.proofs.Covered.{not_both, reads_not}
 use Rattle.machine_events.proofs.Applying.{none_needed_applies, one_enough_applies}
-use Rattle.lang_monitor.specs.Conditions.{HasCondition}
 
 -- ---- conditions that read no inputs
 
@@ -43,9 +42,8 @@ pub guard_shared : (monitor : MonitorParts) (number : ℕ) (block : Block) (cond
     → IsCondition monitor condition which → block.condition ≡ condition
     → which.guard ≡ block.guard
 guard_shared monitor number block condition which rule block_is which_is same =
-    let has = all_at (HasCondition monitor.conditions) monitor.blocks number block block_is rule.conditions in
-    let theirs = is_some_and (slice_get monitor.conditions (block.condition - 1)) (λ (one : Condition). one.guard ≡ block.guard) has.1 in
-    ap (λ (one : Condition). one.guard) (same_Some which theirs.0 (sym which_is.there ∙ ap (λ (one : ℕ). slice_get monitor.conditions (one - 1)) (sym same) ∙ theirs.1)) ∙ theirs.2
+    let theirs = own_guard monitor number block rule block_is (subst (λ (one : ℕ). 1 ≤ one) (sym same) which_is.numbered) in
+    ap (λ (one : Condition). one.guard) (same_Some which theirs.0 (sym which_is.there ∙ ap (λ (one : ℕ). slice_get monitor.conditions (one - 1)) (sym same) ∙ theirs.1.is.there)) ∙ theirs.1.guard
 
 -- ---- a lawful plan is lawful by counting
 
@@ -59,9 +57,9 @@ lawful_by_counting monitor plan lawful = record {
   noted = lawful.noted;
   reading = lawful.reading;
   broadcasts = lawful.broadcasts;
-  signals = λ condition which is kind. inl (λ number block block_is same.
+  signals = λ condition which which_is kind. inl (λ number block block_is same.
       subst (λ (one : ℕ). OneEnoughOrNoted monitor plan one number) same
-      (lawful.signals number block block_is (subst (λ (one : ℕ). condition_kind plan one ≡ Some kinds.Signal) (sym same) kind)));
+      (lawful.signals number block block_is (subst (λ (one : ℕ). 1 ≤ one) (sym same) which_is.numbered) (subst (λ (one : ℕ). condition_kind plan one ≡ Some kinds.Signal) (sym same) kind)));
 }
 
 pub counting_plan : (system : System) → HasLawfulPlan system → HasCountingPlan system

@@ -30,23 +30,23 @@ use Rattle.machine_events.specs.Pending.{announces, sees_to, SomeStands, seeing,
 use Rattle.machine_events.proofs.Standings.{stands_within, came, mover_stands, someone_stays, woken_from, unwoken_stays}
 use Rattle.machine_events.proofs.Valuations.{without_inputs}
 use Rattle.machine_events.proofs.Applying.{kept_applies}
-use Rattle.machine_events.proofs.Facing.{Faces, guard_is, condition_is}
+use Rattle.machine_events.proofs.Facing.{Faces, guard_is, condition_is, own_guard}
 use Rattle.machine_events.proofs.Seeing.{one_most, at_least_none, no_more, chain, still_enough, handed_on, takes_and_gives, many_put, many_woken}
 
 -- ---- a step of a client's block
 
 -- a client at this place may run its block in the state
-pub record MayStep (system : System) (client : ℕ) (place : Place) (call : Call) (block : Block) (which : Condition) (state : List Value) : Type 0 where
-  pub faced : Faces system client place call block which
+pub record MayStep (system : System) (client : ℕ) (place : Place) (call : Call) (block : Block) (state : List Value) : Type 0 where
+  pub faced : Faces system client place call block
   pub run : MayRun system.monitor system.plan.kept (block_at system.monitor call place) block
       (inputs_at call place) state
 
 -- the kept candidates are true after it
 pub kept_next : (system : System) → HasCountingPlan system
-    → (client : ℕ) (place : Place) (call : Call) (block : Block) (which : Condition)
-    (state : List Value) → MayStep system client place call block which state
+    → (client : ℕ) (place : Place) (call : Call) (block : Block) (state : List Value)
+    → MayStep system client place call block state
     → AllHold (after (inputs_at call place) block.body state).state system.plan.kept
-kept_next system set client place call block which state steps =
+kept_next system set client place call block state steps =
     kept_applies system.monitor system.plan.kept system.plan.kept (block_at system.monitor call place) block (inputs_at call place) state steps.run set.is.plan.kept
     (set.lawful.inductive.keeps (block_at system.monitor call place) (slice_get_within system.monitor.blocks (block_at system.monitor call place) block steps.run.is))
 
@@ -73,13 +73,14 @@ condition_truth_is system state inputs condition which is none =
 -- the guard of a client at a block of such a condition is the condition's
 pub signal_guard : (system : System) → HasCountingPlan system
     → (state : List Value) (client : ℕ) (place : Place) (call : Call) (block : Block)
-    (which : Condition) → Faces system client place call block which
+    → Faces system client place call block → 1 ≤ block.condition
     → condition_kind system.plan block.condition ≡ Some kinds.Signal
     → condition_truth system.monitor state block.condition ≡ guard_of system state client place
-signal_guard system set state client place call block which faced signal =
-    condition_truth_is system state (inputs_at call place) block.condition which faced.which_is (reads_not system set block.condition which faced.which_is signal)
-    ∙ ap (truth_of (valuation state (inputs_at call place))) faced.same_guard
-    ∙ sym (guard_is system state client place call block which faced)
+signal_guard system set state client place call block faced numbered signal =
+    let own = own_guard system.monitor (block_at system.monitor call place) block set.is.rule faced.block_is numbered in
+    condition_truth_is system state (inputs_at call place) block.condition own.0 own.1.is (reads_not system set block.condition own.0 own.1.is signal)
+    ∙ ap (truth_of (valuation state (inputs_at call place))) own.1.guard
+    ∙ sym (guard_is system state client place call block faced)
 
 -- ---- the state stays, and one client moves
 
@@ -243,12 +244,12 @@ returns_pending system state standings client place woken at own pending =
 -- a client whose guard is false waits
 pub leaves_pending : (system : System) → HasCountingPlan system
     → (state : List Value) (standings : List Standing) (client : ℕ) (place : Place) (call : Call)
-    (block : Block) (which : Condition)
-    → Faces system client place call block which → StandsAt standings client place Inside
+    (block : Block) → Faces system client place call block → 1 ≤ block.condition
+    → StandsAt standings client place Inside
     → guard_of system state client place ≡ false
     → IsPending system state standings → IsPending system state
     (put standings client place (Waiting (waited_condition system client place)))
-leaves_pending system set state standings client place call block which faced at guard pending =
+leaves_pending system set state standings client place call block faced numbered at guard pending =
     pending_put system state standings client place place Inside (Waiting own) at pending
     (λ condition is. guard)
     (λ condition is kind. false_at condition (cc is) kind)
@@ -264,9 +265,9 @@ leaves_pending system set state standings client place call block which faced at
         → condition_kind system.plan condition ≡ Some kinds.Signal
         → condition_truth system.monitor state condition ≡ false
     false_at condition is kind =
-        let same : condition ≡ block.condition = sym is ∙ condition_is system client place call block which faced in
+        let same : condition ≡ block.condition = sym is ∙ condition_is system client place call block faced in
         ap (condition_truth system.monitor state) same
-        ∙ signal_guard system set state client place call block which faced (subst (λ (one : ℕ). condition_kind system.plan one ≡ Some kinds.Signal) same kind)
+        ∙ signal_guard system set state client place call block faced numbered (subst (λ (one : ℕ). condition_kind system.plan one ≡ Some kinds.Signal) same kind)
         ∙ guard
 
 pub unlocks_pending : (system : System) (state : List Value) (standings : List Standing)
@@ -462,8 +463,8 @@ signals_counted system state standings client place note more target target_plac
 
 -- it takes one where it is of the condition, and gives one where it has a note on it
 pub runs_counted : (system : System) (state next : List Value) (standings : List Standing)
-    (client : ℕ) (place goes : Place) (call : Call) (block : Block) (which : Condition)
-    (told : List Note) → MayStep system client place call block which state
+    (client : ℕ) (place goes : Place) (call : Call) (block : Block) (told : List Note)
+    → MayStep system client place call block state
     → StandsAt standings client place Inside
     → ((condition : ℕ) → has_note (notes_at system.plan (block_at system.monitor call place)) condition
     ≡ true → has_note told condition ≡ true)
@@ -472,7 +473,7 @@ pub runs_counted : (system : System) (state next : List Value) (standings : List
     → next ≡ (after (inputs_at call place) block.body state).state
     → AreCounted system state standings
     → AreCounted system next (put standings client goes (Notifying told))
-runs_counted system state next standings client place goes call block which told steps at noted cast is counted who others_place condition stands kind measure counts = elim (came standings client goes (Notifying told) who others_place (Waiting condition) (stands_within standings client place Inside at) stands) [
+runs_counted system state next standings client place goes call block told steps at noted cast is counted who others_place condition stands kind measure counts = elim (came standings client goes (Notifying told) who others_place (Waiting condition) (stands_within standings client place Inside at) stands) [
   | inl mover ↦ absurd (cc mover.where_phase)
   | inr other ↦ elim (counted who others_place condition other.stood kind measure counts) [
     | inl announced ↦ inl (someone_stays standings client place goes Inside (Notifying told) (λ one ones_place phase. announces phase condition) at (λ same. never same) announced)
@@ -501,7 +502,7 @@ runs_counted system state next standings client place goes call block which told
               (one_if (block.condition == condition)) (one_if (waited_condition system client place == condition))
               (one_if (has_note (notes_at system.plan number) condition)) (one_if (has_note told condition))
               leaves.many enough.many
-              (ap (λ (one : ℕ). one_if (one == condition)) (condition_is system client place call block which steps.faced))
+              (ap (λ (one : ℕ). one_if (one == condition)) (condition_is system client place call block steps.faced))
               (one_most (has_note (notes_at system.plan number) condition) (has_note told condition) (noted condition))
               (seeing_put system condition standings client place goes Inside (Notifying told) at));
         }

@@ -21,15 +21,15 @@ use Rattle.machine_events.specs.declared.plan.CondKind.{CondKind}
 use Rattle.machine_events.specs.declared.plan.CondKind.TheVariants as kinds
 use Rattle.machine_events.specs.declared.event.Event.{Event}
 use Rattle.machine_events.specs.declared.event.Event.TheVariants as events
-use Rattle.machine_events.specs.Plans.{condition_kind, IsCondition}
+use Rattle.machine_events.specs.Plans.{condition_kind}
 use Rattle.machine_events.specs.Configurations.{System, Phase, Standing, Configuration, StandsAt, put, initial, situation_of, guard_of}
 use Rattle.machine_events.specs.Configurations.Phase.{Idle, Entering, Waiting}
 use Rattle.machine_events.specs.Configurations.Phase.{Woken, Inside, Notifying}
 use Rattle.machine_events.specs.Events.{wake_all, fires, NoneWaits, IsEvent, Happen, AreEvents}
 use Rattle.machine_events.specs.Pending.{holds_lock, IsSound, announces, sees_to, SomeStands, IsCovered, WakePending, is_spurious, IsStuck}
-use Rattle.machine_events.proofs.Facing.{Faces, faces, at_index, condition_is}
+use Rattle.machine_events.proofs.Facing.{Faces, faces, at_index, IsWaiter, waiter_in, waiter_guard}
 use Rattle.machine_events.proofs.Sound.{event_keeps_sound, start_is_sound}
-use Rattle.machine_events.proofs.Covered.{not_both, signal_guard}
+use Rattle.machine_events.proofs.Covered.{not_both, condition_truth_is, reads_not}
 use Rattle.machine_events.proofs.Counting.{measure_of, someone_sees}
 use Rattle.machine_events.specs.Laws.{HasCountingPlan}
 use Rattle.machine_events.proofs.Notified.{event_keeps_covered, start_is_covered}
@@ -67,18 +67,18 @@ by_kind : (system : System) (c : Configuration) → HasCountingPlan system → I
     → IsCovered system c → c.owner ≡ None → (client : ℕ) (place : Place) (condition : ℕ)
     → StandsAt c.standings client place (Waiting condition)
     → guard_of system c.state client place ≡ true
-    → (call : Call) (block : Block) (which : Condition) → Faces system client place call block which
+    → (call : Call) (block : Block) (which : Condition)
+    → IsWaiter system client place condition call block which
     → (kind : CondKind) → condition_kind system.plan condition ≡ Some kind
     → (other : ℕ) × (others_place : Place)
     × StandsAt c.standings other others_place (Woken condition)
-by_kind system c set sound covered free client place condition at holds call block which faced kinds.Broadcast kind =
+by_kind system c set sound covered free client place condition at holds call block which waits kinds.Broadcast kind =
     absurd (nobody_announces system c sound free condition (covered.pending.broadcasts client place condition at kind holds))
-by_kind system c set sound covered free client place condition at holds call block which faced kinds.Signal kind =
-    let same : condition ≡ block.condition = (sound.waits client place (Waiting condition) condition at refl).0 ∙ condition_is system client place call block which faced in
+by_kind system c set sound covered free client place condition at holds call block which waits kinds.Signal kind =
     let is_true : condition_truth system.monitor c.state condition ≡ true =
-    ap (condition_truth system.monitor c.state) same
-    ∙ signal_guard system set c.state client place call block which faced (subst (λ (one : ℕ). condition_kind system.plan one ≡ Some kinds.Signal) same kind) ∙ holds in
-    let counted = measure_of system set condition which (subst (λ (one : ℕ). IsCondition system.monitor one which) (sym same) faced.which_is) kind in
+    condition_truth_is system c.state (inputs_at call place) condition which waits.which_is (reads_not system set condition which waits.which_is kind)
+    ∙ sym (waiter_guard system c.state client place condition call block which waits) ∙ holds in
+    let counted = measure_of system set condition which waits.which_is kind in
     elim (covered.pending.signals client place condition at kind counted.0 counted.1) [
       | inl told ↦ absurd (nobody_announces system c sound free condition told)
       | inr enough ↦ one_woken system c sound free condition (someone_sees system c.state c.standings condition counted.0 enough is_true)
@@ -87,11 +87,11 @@ by_kind system c set sound covered free client place condition at holds call blo
 pub wake_is_pending : (system : System) (c : Configuration) → HasCountingPlan system
     → IsSound system c → IsCovered system c → WakePending system c
 wake_is_pending system c set sound covered free client place condition at holds =
-    let faced = faces system client place set.is.rule set.is.scripts (sound.places client place (Waiting condition) at) (sound.begun client place (Waiting condition) at refl) in
-    let same : condition ≡ faced.1.condition = (sound.waits client place (Waiting condition) condition at refl).0 ∙ condition_is system client place faced.0 faced.1 faced.2 faced.3 in
-    let within = slice_get_within system.monitor.conditions (faced.1.condition - 1) faced.2 faced.3.which_is.there in
-    let kind = at_index system.plan.kinds (condition - 1) (omega (arith, set.is.plan.kinds, within, same)) in
-    by_kind system c set sound covered free client place condition at holds faced.0 faced.1 faced.2 faced.3 kind.0 kind.1
+    let theirs = waiter_in system set.is c sound client place condition at in
+    let numbered = theirs.3.which_is.numbered in
+    let within = slice_get_within system.monitor.conditions (condition - 1) theirs.2 theirs.3.which_is.there in
+    let kind = at_index system.plan.kinds (condition - 1) (omega (arith, set.is.plan.kinds, within, numbered)) in
+    by_kind system c set sound covered free client place condition at holds theirs.0 theirs.1 theirs.2 theirs.3 kind.0 kind.1
 
 -- ---- a configuration in which no event but a wake-up by nothing may happen
 
@@ -102,27 +102,27 @@ not_stuck system c stuck event next other happens = not_both (is_spurious event)
 
 -- a client makes a step of its call
 stepping : (system : System) (state : List Value) (client : ℕ) (place : Place) (call : Call)
-    (block : Block) (which : Condition) → Faces system client place call block which
+    (block : Block) → Faces system client place call block
     → (reply : Reply) (memory : Memory) → IsCallStep system.monitor call place state reply memory
     → IsStep system.monitor system.clients client place state reply memory.state
     (next_place system.monitor system.clients client call place reply memory.locals)
-stepping system state client place call block which faced reply memory step = record { call = call; memory = memory; at = faced.call_is; step = step; state_is = refl; place_is = refl }
+stepping system state client place call block faced reply memory step = record { call = call; memory = memory; at = faced.call_is; step = step; state_is = refl; place_is = refl }
 
 guard_truth_is : (system : System) (state : List Value) (client : ℕ) (place : Place) (call : Call)
-    (block : Block) (which : Condition) → Faces system client place call block which
+    (block : Block) → Faces system client place call block
     → guard_of system state client place
     ≡ guard_truth system.monitor state (block_at system.monitor call place) (inputs_at call place)
-guard_truth_is system state client place call block which faced =
+guard_truth_is system state client place call block faced =
     ap (λ (one : Option Call). option_map_or (λ call. guard_truth system.monitor state (block_at system.monitor call place) (inputs_at call place)) one false) faced.call_is
 
 -- a step of a block whose guard is true
 some_step : (system : System) (state : List Value) (client : ℕ) (place : Place) (call : Call)
-    (block : Block) (which : Condition) → Faces system client place call block which
+    (block : Block) → Faces system client place call block
     → guard_of system state client place ≡ true
     → (reply : Reply) × (memory : Memory) × IsCallStep system.monitor call place state reply memory
-some_step system state client place call block which faced holds =
+some_step system state client place call block faced holds =
     let inputs = inputs_at call place in
-    let guard : guard_truth system.monitor state (block_at system.monitor call place) inputs ≡ true = sym (guard_truth_is system state client place call block which faced) ∙ holds in
+    let guard : guard_truth system.monitor state (block_at system.monitor call place) inputs ≡ true = sym (guard_truth_is system state client place call block faced) ∙ holds in
     elim (cases_Bool (overflows_in inputs block state)) [
       | inl over ↦ (replies.Overflow, memory_of state inputs, made replies.Overflow (memory_of state inputs) guard (inr (over, refl, refl)))
       | inr fits ↦ (
@@ -143,16 +143,16 @@ some_step system state client place call block which faced holds =
 
 -- a refusal at the first block of a call that tries
 some_refusal : (system : System) (state : List Value) (client : ℕ) (place : Place) (call : Call)
-    (block : Block) (which : Condition) → Faces system client place call block which
+    (block : Block) → Faces system client place call block
     → guard_of system state client place ≡ false → tries_at system.clients client place ≡ true
     → IsCallStep system.monitor call place state replies.Refused
     (memory_of state (inputs_at call place))
-some_refusal system state client place call block which faced fails tries =
+some_refusal system state client place call block faced fails tries =
     let both = and_parts call.tries (place.block == 0) (sym (ap (λ (one : Option Call). option_map_or (λ call. call.tries && place.block == 0) one false) faced.call_is) ∙ tries) in
     inr (record {
       tries = both.0;
       first = eqb-true place.block 0 both.1;
-      guard = sym (guard_truth_is system state client place call block which faced) ∙ fails;
+      guard = sym (guard_truth_is system state client place call block faced) ∙ fails;
       reply_is = refl;
       stays = refl;
     })
@@ -207,17 +207,17 @@ holder_moves system c rule scripts sound stuck client place Inside at holds =
     let faced = faces system client place rule scripts (sound.places client place Inside at) (sound.begun client place Inside at refl) in
     elim (cases_Bool (guard_of system c.state client place)) [
       | inl is_true ↦
-          let step = some_step system c.state client place faced.0 faced.1 faced.2 faced.3 is_true in
+          let step = some_step system c.state client place faced.0 faced.1 faced.2 is_true in
           not_stuck system c stuck (events.Run client) _ refl (
             place,
             _,
             step.0,
             step.1.state,
-            record { guard = is_true; steps = record { inside = at; step = stepping system c.state client place faced.0 faced.1 faced.2 faced.3 step.0 step.1 step.2; becomes = refl } },
+            record { guard = is_true; steps = record { inside = at; step = stepping system c.state client place faced.0 faced.1 faced.2 step.0 step.1 step.2; becomes = refl } },
           )
       | inr is_false ↦ elim (cases_Bool (tries_at system.clients client place)) [
         | inl tries ↦
-            let refusal = some_refusal system c.state client place faced.0 faced.1 faced.2 faced.3 is_false tries in
+            let refusal = some_refusal system c.state client place faced.0 faced.1 faced.2 is_false tries in
             not_stuck system c stuck (events.Wait client) _ refl (
               place,
               inr (
@@ -228,7 +228,7 @@ holder_moves system c rule scripts sound stuck client place Inside at holds =
                   guard = is_false;
                   steps = record {
                     inside = at;
-                    step = stepping system c.state client place faced.0 faced.1 faced.2 faced.3 replies.Refused (memory_of c.state (inputs_at faced.0 place)) refusal;
+                    step = stepping system c.state client place faced.0 faced.1 faced.2 replies.Refused (memory_of c.state (inputs_at faced.0 place)) refusal;
                     becomes = refl;
                   };
                 },

@@ -162,7 +162,7 @@ everyone_lawful monitor = record {
       notes_or_none (λ (note : Note). note.condition ≡ condition → note.all ≡ true) (broadcasts_from 1 monitor.conditions) monitor.blocks block
       (All-weaker (λ (note : Note). note.condition ≡ condition → IsUntestedBroadcast note) (λ (note : Note). note.condition ≡ condition → note.all ≡ true)
       (λ note is same. (is same).all) (broadcasts_from 1 monitor.conditions) (each_broadcasts condition 1 monitor.conditions));
-  signals = λ number block is kind. absurd (no_signal monitor.conditions (block.condition - 1) kind);
+  signals = λ number block is numbered kind. absurd (no_signal monitor.conditions (block.condition - 1) kind);
 }
 
 -- ---- the plan that is made

@@ -1,6 +1,7 @@
 -- The notes of a block, and what a run and a note keep under a lawful plan.
-use Rattle.std.proofs.Common.{◌≡◌, ◌==◌, ◌⊎◌, ℕ, ◌-◌, ◌<◌, ◌≤◌, true, false, not, ◌&&◌, List, [], ◌∷◌, ◌++◌, length, Option, Some, None, refl, sym, ap, subst, ◌∙◌, arith, inl, inr}
+use Rattle.std.proofs.Common.{◌≡◌, ◌==◌, ◌⊎◌, ℕ, zero, suc, ◌-◌, ◌<◌, ◌≤◌, Bool, true, false, cond, not, ◌&&◌, List, [], ◌∷◌, ◌++◌, length, Option, Some, None, refl, sym, ap, subst, ◌∙◌, arith, inl, inr}
 use Rattle.std.specs.Prelude.{All}
+use Rattle.std.proofs.Math.Dec.{eqb-suc-zero}
 use Rattle.std.proofs.lemmas.Option.{same_Some, slice_get_within}
 use Rattle.std.proofs.lemmas.List.Elements.{All-head, All-tail}
 use Rattle.std.proofs.lemmas.Bool.{true≢false, eqb-true, eq-eqb, and_from, or_cases, or_left, or_right, or_parts, cases_Bool, not-false}
@@ -27,10 +28,10 @@ use Rattle.machine_events.specs.Laws.{HasCountingPlan}
 use Rattle.machine_events.specs.Configurations.{System, Phase, Standing, Configuration, StandsAt, put, initial, guard_of, waited_condition, block_condition}
 use Rattle.machine_events.specs.Configurations.Phase.{Idle, Entering, Waiting}
 use Rattle.machine_events.specs.Configurations.Phase.{Woken, Inside, Notifying}
-use Rattle.machine_events.specs.Events.{wake_all, fires, own_signal, notes_after, NoneWaits, Locks, Waits, StepsInside, Wakes, Notifies, IsEvent}
-use Rattle.machine_events.specs.Pending.{holds_lock, IsSuffix, IsSound, HasOneOwner, announces, SomeStands, IsPending, IsCovered}
+use Rattle.machine_events.specs.Events.{wake_all, fires, own_signal, own_notes, notes_after, NoneWaits, Locks, Waits, StepsInside, Wakes, Notifies, IsEvent}
+use Rattle.machine_events.specs.Pending.{holds_lock, IsSuffix, IsSystem, IsSound, HasOneOwner, announces, SomeStands, IsPending, IsCovered}
 use Rattle.machine_events.proofs.Standings.{one_phase, stands_within, came, mover_stands, unwoken_stays, none_waits}
-use Rattle.machine_events.proofs.Facing.{Faces, faces, guard_is, condition_is, own_condition}
+use Rattle.machine_events.proofs.Facing.{Faces, faces, guard_is, condition_is, own_condition, has_condition, IsWaiter, waiter_in, waiter_guard}
 use Rattle.machine_events.proofs.Sound.{Did, did, target_apart, some_idle}
 use Rattle.machine_events.proofs.Applying.{none_needed_applies}
 use Rattle.machine_events.proofs.Sound.Did.{ran, overflowed, refused}
@@ -55,6 +56,12 @@ suffix_none : {P : Type 0} (taken : List Note) (note : Note) (more : List Note)
 suffix_none [] note more is = absurd (cc is)
 suffix_none (first ∷ taken) note more is = absurd (cc is)
 
+-- after an overflow
+suffix_own : (none : Bool) (taken : List Note) (note : Note) (more : List Note) (only : Note)
+    → taken ++ (note ∷ more) ≡ cond none [] (only ∷ []) → note ≡ only
+suffix_own true taken note more only is = suffix_none taken note more is
+suffix_own false taken note more only is = suffix_one taken note more only is
+
 -- which notes are to come: one of a block's, or the signal after an overflow
 note_after : (system : System) (block : ℕ) (reply : Reply) (note : Note) (more : List Note)
     → IsSuffix (note ∷ more) (notes_after system block reply)
@@ -62,7 +69,7 @@ note_after : (system : System) (block : ℕ) (reply : Reply) (note : Note) (more
 note_after system block replies.Unit note more suffix P all = inl (suffix_all P suffix.0 note more (notes_at system.plan block) suffix.1 all)
 note_after system block (replies.Int number) note more suffix P all = inl (suffix_all P suffix.0 note more (notes_at system.plan block) suffix.1 all)
 note_after system block (replies.Bool truth) note more suffix P all = inl (suffix_all P suffix.0 note more (notes_at system.plan block) suffix.1 all)
-note_after system block replies.Overflow note more suffix P all = inr (ap (λ (one : Note). one.tested) (suffix_one suffix.0 note more (own_signal system block) suffix.1))
+note_after system block replies.Overflow note more suffix P all = inr (ap (λ (one : Note). one.tested) (suffix_own (block_condition system.monitor block == 0) suffix.0 note more (own_signal system block) suffix.1))
 note_after system block replies.Refused note more suffix P all = suffix_none suffix.0 note more suffix.1
 
 -- a note that does not fire is tested, and its condition's guard is false
@@ -81,10 +88,9 @@ nobody_true : (system : System) → HasCountingPlan system → (c : Configuratio
     → guard_of system c.state who others_place ≡ true → ⊥
 nobody_true system set c sound client place note more at still who others_place waits holds =
     let tested = idle_note system c.state note still in
-    let theirs = faces system who others_place set.is.rule set.is.scripts (sound.places who others_place (Waiting note.condition) waits) (sound.begun who others_place (Waiting note.condition) waits refl) in
+    let theirs = waiter_in system set.is c sound who others_place note.condition waits in
     let which = theirs.2 in
-    let same : note.condition ≡ theirs.1.condition = (sound.waits who others_place (Waiting note.condition) note.condition waits refl).0 ∙ condition_is system who others_place theirs.0 theirs.1 which theirs.3 in
-    let which_is : IsCondition system.monitor note.condition which = subst (λ (one : ℕ). IsCondition system.monitor one which) (sym same) theirs.3.which_is in
+    let which_is : IsCondition system.monitor note.condition which = theirs.3.which_is in
     elim (cases_Bool (reads_inputs which.guard)) [
       | inl reads ↦
           let come = sound.notes client place (note ∷ more) at in
@@ -95,7 +101,7 @@ nobody_true system set c sound client place note more at still who others_place 
           ]
       | inr plain ↦
           not_both (guard_of system c.state who others_place) holds
-          (guard_is system c.state who others_place theirs.0 theirs.1 which theirs.3 ∙ ap (truth_of (valuation c.state (inputs_at theirs.0 others_place))) (sym theirs.3.same_guard)
+          (waiter_guard system c.state who others_place note.condition theirs.0 theirs.1 which theirs.3
           ∙ sym (condition_truth_is system c.state (inputs_at theirs.0 others_place) note.condition which which_is plain) ∙ tested.1)
     ]
 
@@ -186,15 +192,15 @@ nobody_announces system c client place condition lock at (other, others_place, I
 
 -- what is to come after an overflow or a refusal, where the state stays: a note on the client's own
 -- condition, where its guard is true
-stays_pending : (system : System) (c : Configuration) → IsSound system c → IsCovered system c
-    → (client : ℕ) (place goes : Place) (notes : List Note) (next : List Value)
+stays_pending : (system : System) → IsSystem system → (c : Configuration) → IsSound system c
+    → IsCovered system c → (client : ℕ) (place goes : Place) (notes : List Note) (next : List Value)
     → StandsAt c.standings client place Inside
     → next ≡ c.state
-    → ((condition : ℕ) → waited_condition system client place ≡ condition
+    → ((condition : ℕ) → 1 ≤ condition → waited_condition system client place ≡ condition
     → condition_kind system.plan condition ≡ Some kinds.Signal
     → condition_truth system.monitor c.state condition ≡ true → has_note notes condition ≡ true)
     → IsPending system next (put c.standings client goes (Notifying notes))
-stays_pending system c sound covered client place goes notes next at is seen =
+stays_pending system is_system c sound covered client place goes notes next at is seen =
     subst (λ (state : List Value). IsPending system state (put c.standings client goes (Notifying notes))) (sym is)
     (pending_put system c.state c.standings client place goes Inside (Notifying notes) at covered.pending
     (λ condition same. absurd (cc same)) (λ condition same. absurd (cc same))
@@ -202,33 +208,31 @@ stays_pending system c sound covered client place goes notes next at is seen =
     (λ who others_place condition waits kind holds. record {
       told = λ same. absurd (true≢false (sym same));
       many = one_most (waited_condition system client place == condition) (has_note notes condition)
-          (λ own. seen condition (eqb-true (waited_condition system client place) condition own) kind holds);
+          (λ own. seen condition (waiter_in system is_system c sound who others_place condition waits).3.which_is.numbered (eqb-true (waited_condition system client place) condition own) kind holds);
     }))
 
 ran_pending : (system : System) → HasCountingPlan system → (c : Configuration) → IsSound system c
     → IsCovered system c → (client : ℕ) (place goes : Place) (call : Call) (block : Block)
-    (which : Condition)
-    → MayStep system client place call block which c.state → (reply : Reply) (next : List Value)
+    → MayStep system client place call block c.state → (reply : Reply) (next : List Value)
     → StandsAt c.standings client place Inside
     → next ≡ (after (inputs_at call place) block.body c.state).state
     → notes_after system (block_at system.monitor call place) reply
     ≡ notes_at system.plan (block_at system.monitor call place)
     → IsPending system next (put c.standings client goes
     (Notifying (notes_after system (block_at system.monitor call place) reply)))
-ran_pending system set c sound covered client place goes call block which steps reply next at is notes = record {
+ran_pending system set c sound covered client place goes call block steps reply next at is notes = record {
   broadcasts = λ who others_place condition stands kind holds. elim (came c.standings client goes (Notifying (notes_after system (block_at system.monitor call place) reply)) who others_place (Waiting condition) within stands) [
     | inl mover ↦ absurd (cc mover.where_phase)
     | inr other ↦
-        let theirs = faces system who others_place set.is.rule set.is.scripts (sound.places who others_place (Waiting condition) other.stood) (sound.begun who others_place (Waiting condition) other.stood refl) in
-        let same : condition ≡ theirs.1.condition = (sound.waits who others_place (Waiting condition) condition other.stood refl).0 ∙ condition_is system who others_place theirs.0 theirs.1 theirs.2 theirs.3 in
-        let noted = makes_true condition theirs.2 (inputs_at theirs.0 others_place) (subst (λ (one : ℕ). IsCondition system.monitor one theirs.2) (sym same) theirs.3.which_is)
+        let theirs = waiter_in system set.is c sound who others_place condition other.stood in
+        let noted = makes_true condition theirs.2 (inputs_at theirs.0 others_place) theirs.3.which_is
         (was_false who others_place condition theirs.0 theirs.1 theirs.2 theirs.3 other.stood kind)
-        (sym (guard_at_condition next who others_place theirs.0 theirs.1 theirs.2 theirs.3) ∙ holds) in
+        (sym (waiter_guard system next who others_place condition theirs.0 theirs.1 theirs.2 theirs.3) ∙ holds) in
         mover_stands c.standings client place goes Inside (Notifying (notes_after system (block_at system.monitor call place) reply)) (λ one ones_place phase. announces phase condition) at
         (ap (λ (some : List Note). has_broadcast some condition) notes
         ∙ all_broadcasts condition (notes_at system.plan (block_at system.monitor call place)) (set.lawful.broadcasts condition kind (block_at system.monitor call place)) noted)
   ];
-  signals = runs_counted system c.state next c.standings client place goes call block which (notes_after system (block_at system.monitor call place) reply) steps at
+  signals = runs_counted system c.state next c.standings client place goes call block (notes_after system (block_at system.monitor call place) reply) steps at
       (λ condition noted. ap (λ (some : List Note). has_note some condition) notes ∙ noted)
       (λ condition cast. ap (λ (some : List Note). has_broadcast some condition) notes ∙ cast) is covered.pending.signals;
 }
@@ -236,24 +240,17 @@ ran_pending system set c sound covered client place goes call block which steps 
     within : client < length c.standings
     within = stands_within c.standings client place Inside at
 
-    guard_at_condition : (state : List Value) (who : ℕ) (others_place : Place) (one : Call)
-        (their_block : Block) (their_which : Condition)
-        → Faces system who others_place one their_block their_which
-        → guard_of system state who others_place
-        ≡ truth_of (valuation state (inputs_at one others_place)) their_which.guard
-    guard_at_condition state who others_place one their_block their_which faced =
-        guard_is system state who others_place one their_block their_which faced ∙ ap (truth_of (valuation state (inputs_at one others_place))) (sym faced.same_guard)
-
     -- while one is inside, no guard is true of those that wait on a condition of kind broadcast
     was_false : (who : ℕ) (others_place : Place) (condition : ℕ) (one : Call) (their_block : Block)
-        (their_which : Condition) → Faces system who others_place one their_block their_which
+        (their_which : Condition)
+        → IsWaiter system who others_place condition one their_block their_which
         → StandsAt c.standings who others_place (Waiting condition)
         → condition_kind system.plan condition ≡ Some kinds.Broadcast
         → truth_of (valuation c.state (inputs_at one others_place)) their_which.guard ≡ false
-    was_false who others_place condition one their_block their_which faced stood kind = elim (cases_Bool (truth_of (valuation c.state (inputs_at one others_place)) their_which.guard)) [
+    was_false who others_place condition one their_block their_which waits stood kind = elim (cases_Bool (truth_of (valuation c.state (inputs_at one others_place)) their_which.guard)) [
       | inl was ↦
           absurd (nobody_announces system c client place condition sound.lock at
-          (covered.pending.broadcasts who others_place condition stood kind (guard_at_condition c.state who others_place one their_block their_which faced ∙ was)))
+          (covered.pending.broadcasts who others_place condition stood kind (waiter_guard system c.state who others_place condition one their_block their_which waits ∙ was)))
       | inr was ↦ was
     ]
 
@@ -279,10 +276,9 @@ ran_pending system set c sound covered client place goes call block which steps 
 -- a client whose guard is true may run its block
 may_step_here : (system : System) → HasCountingPlan system → (c : Configuration) → IsSound system c
     → IsCovered system c → (client : ℕ) (place : Place) (call : Call) (block : Block)
-    (which : Condition)
-    → Faces system client place call block which → guard_of system c.state client place ≡ true
-    → MayStep system client place call block which c.state
-may_step_here system set c sound covered client place call block which faced guard = record {
+    → Faces system client place call block → guard_of system c.state client place ≡ true
+    → MayStep system client place call block c.state
+may_step_here system set c sound covered client place call block faced guard = record {
   faced = faced;
   run = record {
     rule = set.is.rule;
@@ -290,35 +286,45 @@ may_step_here system set c sound covered client place call block which faced gua
     is = faced.block_is;
     fits = sound.fits;
     inputs_fit = faced.fits_inputs;
-    guard = sym (guard_is system c.state client place call block which faced) ∙ guard;
+    guard = sym (guard_is system c.state client place call block faced) ∙ guard;
     kept_hold = covered.invariant;
   };
 }
 
+-- after an overflow a block that has a condition has a note on it
+own_noted : (system : System) (block condition : ℕ) → 1 ≤ condition
+    → block_condition system.monitor block ≡ condition
+    → has_note (own_notes system block) condition ≡ true
+own_noted system block condition numbered own =
+    ap (λ (none : Bool). has_note (cond none [] (own_signal system block ∷ [])) condition) (some (block_condition system.monitor block) (omega (arith, numbered, own)))
+    ∙ or_left (block_condition system.monitor block == condition) false (eq-eqb (block_condition system.monitor block) condition own)
+  where
+    some : (number : ℕ) → 1 ≤ number → (number == 0) ≡ false
+    some zero numbered = absurd (omega (arith, numbered))
+    some (suc number) numbered = eqb-suc-zero number
+
 steps_pending : (system : System) → HasCountingPlan system → (c : Configuration) → IsSound system c
     → IsCovered system c → (client : ℕ) (place goes : Place) (call : Call) (block : Block)
-    (which : Condition)
-    → Faces system client place call block which → (reply : Reply) (next locals : List Value)
+    → Faces system client place call block → (reply : Reply) (next locals : List Value)
     → StandsAt c.standings client place Inside
     → Did system client place call block c.state reply next locals
     → IsPending system next (put c.standings client goes
     (Notifying (notes_after system (block_at system.monitor call place) reply)))
-steps_pending system set c sound covered client place goes call block which faced reply next locals at (ran guard is local notes) =
-    ran_pending system set c sound covered client place goes call block which (may_step_here system set c sound covered client place call block which faced guard) reply next at is notes
-steps_pending system set c sound covered client place goes call block which faced reply next locals at (overflowed guard is local notes) =
+steps_pending system set c sound covered client place goes call block faced reply next locals at (ran guard is local notes) =
+    ran_pending system set c sound covered client place goes call block (may_step_here system set c sound covered client place call block faced guard) reply next at is notes
+steps_pending system set c sound covered client place goes call block faced reply next locals at (overflowed guard is local notes) =
     let number = block_at system.monitor call place in
-    stays_pending system c sound covered client place goes (notes_after system number reply) next at is
-    (λ condition own kind holds.
+    stays_pending system set.is c sound covered client place goes (notes_after system number reply) next at is
+    (λ condition numbered own kind holds.
     ap (λ (some : List Note). has_note some condition) notes
-    ∙ or_left (block_condition system.monitor number == condition) false
-    (eq-eqb (block_condition system.monitor number) condition (own_condition system client place call block which faced ∙ sym (condition_is system client place call block which faced) ∙ own)))
-steps_pending system set c sound covered client place goes call block which faced reply next locals at (refused guard is local notes) =
-    stays_pending system c sound covered client place goes (notes_after system (block_at system.monitor call place) reply) next at is
-    (λ condition own kind holds.
-    let same : condition ≡ block.condition = sym own ∙ condition_is system client place call block which faced in
+    ∙ own_noted system number condition numbered (own_condition system client place call block faced ∙ sym (condition_is system client place call block faced) ∙ own))
+steps_pending system set c sound covered client place goes call block faced reply next locals at (refused guard is local notes) =
+    stays_pending system set.is c sound covered client place goes (notes_after system (block_at system.monitor call place) reply) next at is
+    (λ condition numbered own kind holds.
+    let same : condition ≡ block.condition = sym own ∙ condition_is system client place call block faced in
     let signal = subst (λ (one : ℕ). condition_kind system.plan one ≡ Some kinds.Signal) same kind in
     absurd (not_both (condition_truth system.monitor c.state condition) holds
-    (ap (condition_truth system.monitor c.state) same ∙ signal_guard system set c.state client place call block which faced signal ∙ guard)))
+    (ap (condition_truth system.monitor c.state) same ∙ signal_guard system set c.state client place call block faced (subst (λ (one : ℕ). 1 ≤ one) same numbered) signal ∙ guard)))
 
 -- ---- any event
 
@@ -346,14 +352,13 @@ notifies_pending system set client place target before next sound covered event 
 
 next_invariant : (system : System) → HasCountingPlan system → (c : Configuration) → IsSound system c
     → IsCovered system c → (client : ℕ) (place : Place) (call : Call) (block : Block)
-    (which : Condition)
-    → Faces system client place call block which → (reply : Reply) (next locals : List Value)
+    → Faces system client place call block → (reply : Reply) (next locals : List Value)
     → Did system client place call block c.state reply next locals → AllHold next system.plan.kept
-next_invariant system set c sound covered client place call block which faced reply next locals (ran guard is local notes) =
+next_invariant system set c sound covered client place call block faced reply next locals (ran guard is local notes) =
     subst (λ (one : List Value). AllHold one system.plan.kept) (sym is)
-    (kept_next system set client place call block which c.state (may_step_here system set c sound covered client place call block which faced guard))
-next_invariant system set c sound covered client place call block which faced reply next locals (overflowed guard is local notes) = subst (λ (one : List Value). AllHold one system.plan.kept) (sym is) covered.invariant
-next_invariant system set c sound covered client place call block which faced reply next locals (refused guard is local notes) = subst (λ (one : List Value). AllHold one system.plan.kept) (sym is) covered.invariant
+    (kept_next system set client place call block c.state (may_step_here system set c sound covered client place call block faced guard))
+next_invariant system set c sound covered client place call block faced reply next locals (overflowed guard is local notes) = subst (λ (one : List Value). AllHold one system.plan.kept) (sym is) covered.invariant
+next_invariant system set c sound covered client place call block faced reply next locals (refused guard is local notes) = subst (λ (one : List Value). AllHold one system.plan.kept) (sym is) covered.invariant
 
 steps_covered : (system : System) → HasCountingPlan system
     → (client : ℕ) (place goes : Place) (reply : Reply) (state : List Value)
@@ -362,21 +367,23 @@ steps_covered : (system : System) → HasCountingPlan system
 steps_covered system set client place goes reply state before next sound covered event =
     let step = event.step in
     let faced = faces system client place set.is.rule set.is.scripts (sound.places client place Inside event.inside) (sound.begun client place Inside event.inside refl) in
-    let same : faced.0 ≡ step.call = same_Some faced.0 step.call (sym faced.3.call_is ∙ step.at) in
-    let mine : Faces system client place step.call faced.1 faced.2 = subst (λ (call : Call). Faces system client place call faced.1 faced.2) same faced.3 in
-    let made = did system client place step.call faced.1 faced.2 before.state reply step.memory state mine step.step step.state_is in
+    let same : faced.0 ≡ step.call = same_Some faced.0 step.call (sym faced.2.call_is ∙ step.at) in
+    let mine : Faces system client place step.call faced.1 = subst (λ (call : Call). Faces system client place call faced.1) same faced.2 in
+    let made = did system client place step.call faced.1 before.state reply step.memory state mine step.step step.state_is in
     subst (IsCovered system) (sym event.becomes) (record {
-      invariant = next_invariant system set before sound covered client place step.call faced.1 faced.2 mine reply state step.memory.locals made;
-      pending = steps_pending system set before sound covered client place goes step.call faced.1 faced.2 mine reply state step.memory.locals event.inside made;
+      invariant = next_invariant system set before sound covered client place step.call faced.1 mine reply state step.memory.locals made;
+      pending = steps_pending system set before sound covered client place goes step.call faced.1 mine reply state step.memory.locals event.inside made;
     })
 
 waits_covered : (system : System) → HasCountingPlan system
     → (client : ℕ) (place : Place) (before next : Configuration) → IsSound system before
     → IsCovered system before → Waits system client place before next → IsCovered system next
 waits_covered system set client place before next sound covered event =
-    let faced = faces system client place set.is.rule set.is.scripts (sound.places client place Inside event.inside) (sound.begun client place Inside event.inside refl) in
+    let fits = sound.places client place Inside event.inside in
+    let faced = faces system client place set.is.rule set.is.scripts fits (sound.begun client place Inside event.inside refl) in
+    let numbered = has_condition system client place faced.0 faced.1 set.is.rule set.is.scripts fits faced.2 event.patient in
     subst (IsCovered system) (sym event.becomes)
-    (record { invariant = covered.invariant; pending = leaves_pending system set before.state before.standings client place faced.0 faced.1 faced.2 faced.3 event.inside event.guard covered.pending })
+    (record { invariant = covered.invariant; pending = leaves_pending system set before.state before.standings client place faced.0 faced.1 faced.2 numbered event.inside event.guard covered.pending })
 
 locks_covered : (system : System) (client : ℕ) (place : Place) (before next : Configuration)
     → IsSound system before → IsCovered system before → Locks client place before next

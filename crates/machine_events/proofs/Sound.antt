@@ -7,7 +7,6 @@ use Rattle.std.proofs.lemmas.Option.{none-some, same_Some}
 use Rattle.std.proofs.lemmas.Bool.{true≢false, cases_eq}
 use Rattle.lang_base.specs.declared.value.Value.{Value}
 use Rattle.lang_monitor.specs.declared.monitor.Block.{Block}
-use Rattle.lang_monitor.specs.declared.monitor.Condition.{Condition}
 use Rattle.lang_monitor.specs.MonitorParts.{MonitorParts, IsMonitor}
 use Rattle.lang_monitor.specs.Bodies.{Memory, after, block_result}
 use Rattle.lang_base.specs.declared.value.Value.TheVariants as values
@@ -29,7 +28,7 @@ use Rattle.machine_events.specs.Plans.{notes_at}
 use Rattle.machine_events.specs.Configurations.{System, Phase, Standing, Configuration, StandsAt, put, idle_at, initial, situation_of, guard_of, waited_condition}
 use Rattle.machine_events.specs.Configurations.Phase.{Idle, Entering, Waiting}
 use Rattle.machine_events.specs.Configurations.Phase.{Woken, Inside, Notifying}
-use Rattle.machine_events.specs.Events.{wake_all, waits_on, own_signal, notes_after, commit_at, Begins, Locks, Waits, StepsInside, Wakes, Notifies, Unlocks, IsEvent}
+use Rattle.machine_events.specs.Events.{wake_all, waits_on, own_notes, notes_after, commit_at, Begins, Locks, Waits, StepsInside, Wakes, Notifies, Unlocks, IsEvent}
 use Rattle.machine_events.specs.Pending.{has_begun, holds_lock, condition_named, IsSuffix, IsHeldBy, HasOneOwner, AreToCome, IsSound}
 use Rattle.machine_events.proofs.Standings.{same_place, same_phase, one_phase, stands_within, put_length, put_same, stays, came, apart, woken_from, unwoken_stays, woken_length}
 use Rattle.machine_implicit.proofs.Fitting.{first_fits, first_is, step_fits}
@@ -364,7 +363,7 @@ takes_soundly system client place note more before sound at =
 -- ---- a step
 
 -- what the step of a client did: all of its block's body, with the block's notes to come, or
--- nothing, with the signal after an overflow to come, or nothing at all
+-- nothing, with what comes after an overflow to come, or nothing at all
 pub data Did (system : System) (client : ℕ) (place : Place) (call : Call) (block : Block) (state : List Value) (reply : Reply) (next locals : List Value) : Type 0 where
   ran : guard_of system state client place ≡ true
       → next ≡ (after (inputs_at call place) block.body state).state
@@ -374,7 +373,7 @@ pub data Did (system : System) (client : ℕ) (place : Place) (call : Call) (blo
       → Did system client place call block state reply next locals
   overflowed : guard_of system state client place ≡ true → next ≡ state → locals ≡ place.locals
       → notes_after system (block_at system.monitor call place) reply
-      ≡ own_signal system (block_at system.monitor call place) ∷ []
+      ≡ own_notes system (block_at system.monitor call place)
       → Did system client place call block state reply next locals
   refused : guard_of system state client place ≡ false → next ≡ state → locals ≡ place.locals
       → notes_after system (block_at system.monitor call place) reply ≡ []
@@ -387,11 +386,11 @@ notes_plain system block (Some (values.Int number)) = refl
 notes_plain system block (Some (values.Bool truth)) = refl
 
 pub did : (system : System) (client : ℕ) (place : Place) (call : Call) (block : Block)
-    (which : Condition) (state : List Value) (reply : Reply) (memory : Memory) (next : List Value)
-    → Faces system client place call block which
+    (state : List Value) (reply : Reply) (memory : Memory) (next : List Value)
+    → Faces system client place call block
     → IsCallStep system.monitor call place state reply memory → next ≡ memory.state
     → Did system client place call block state reply next memory.locals
-did system client place call block which state reply memory next faced (inl step) is =
+did system client place call block state reply memory next faced (inl step) is =
     let inputs = inputs_at call place in
     let number = block_at system.monitor call place in
     let guard : guard_of system state client place ≡ true =
@@ -401,7 +400,7 @@ did system client place call block which state reply memory next faced (inl step
       | inl all ↦ ran guard (is ∙ ap (λ (m : Memory). m.state) all.2) (ap (λ (m : Memory). m.locals) all.2) (ap (notes_after system number) all.1 ∙ notes_plain system number (block_result inputs block state))
       | inr over ↦ overflowed guard (is ∙ ap (λ (m : Memory). m.state) over.2) (ap (λ (m : Memory). m.locals) over.2) (ap (notes_after system number) over.1)
     ]
-did system client place call block which state reply memory next faced (inr refusal) is =
+did system client place call block state reply memory next faced (inr refusal) is =
     let guard : guard_of system state client place ≡ false =
     ap (λ (one : Option Call). option_map_or (λ call. guard_truth system.monitor state (block_at system.monitor call place) (inputs_at call place)) one false) faced.call_is ∙ refusal.guard in
     refused guard (is ∙ ap (λ (m : Memory). m.state) refusal.stays) (ap (λ (m : Memory). m.locals) refusal.stays) (ap (notes_after system (block_at system.monitor call place)) refusal.reply_is)

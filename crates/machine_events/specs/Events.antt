@@ -62,10 +62,15 @@ abbrev pub own_signal : System → ℕ → Note
 own_signal system block =
     record { condition = block_condition system.monitor block; all = false; tested = false }
 
+-- that signal, where the block has a condition
+abbrev pub own_notes : System → ℕ → List Note
+own_notes system block =
+    if block_condition system.monitor block == 0 then [] else own_signal system block ∷ []
+
 -- the notes that come after a reply of a block: those of the block, after an overflow the one
 -- signal alone, and none after a refusal
 abbrev pub notes_after : System → ℕ → Reply → List Note
-notes_after system block replies.Overflow = own_signal system block ∷ []
+notes_after system block replies.Overflow = own_notes system block
 notes_after system block replies.Refused = []
 notes_after system block reply = notes_at system.plan block
 

@@ -1,14 +1,18 @@
 -- What the laws say.
-use Rattle.std.specs.Prelude.{◌≡◌, ℕ, true, false, List, All}
+use Rattle.std.specs.Prelude.{◌≡◌, ℕ, true, false, List, All, Some, slice_get}
 use Rattle.logic_linear.specs.Truth.{truth_of}
 use Rattle.lang_base.specs.declared.value.Value.{Value}
 use Rattle.lang_monitor.specs.declared.candidate.Candidate.{Candidate}
 use Rattle.lang_monitor.specs.declared.monitor.Block.{Block}
 use Rattle.lang_monitor.specs.declared.monitor.Condition.{Condition}
 use Rattle.lang_monitor.specs.MonitorParts.{MonitorParts, Places, AreOfKinds, fits_block}
+use Rattle.lang_monitor.specs.MonitorParts.{asserts_in}
 use Rattle.lang_monitor.specs.Bodies.{Inputs, valuation, after}
 use Rattle.lang_monitor.specs.Candidates.{AllHold, candidates_of}
 use Rattle.lang_monitor.specs.Triples.{Keeps, NoneNeeded, OneEnough, NoTestNeeded}
+use Rattle.machine_implicit.specs.declared.place.Place.{Place}
+use Rattle.machine_implicit.specs.declared.script.Call.{Call}
+use Rattle.machine_implicit.specs.Places.{call_at}
 use Rattle.machine_implicit.specs.Runs.{IsRun, Ends}
 use Rattle.machine_events.specs.declared.event.Event.{Event}
 use Rattle.machine_events.specs.declared.log.Entry.{Entry}
@@ -16,7 +20,8 @@ use Rattle.machine_events.specs.declared.plan.Plan.{Plan}
 use Rattle.machine_events.specs.Plans.{AreSomeOf, IsCondition, FitsPlan, IsLawful, everyone}
 pub use Rattle.machine_events.specs.Running.{MayRun}
 use Rattle.machine_events.specs.Counts.{IsLawfulByCounting}
-use Rattle.machine_events.specs.Configurations.{System, Configuration, situation_of}
+use Rattle.machine_events.specs.Configurations.{System, Configuration, StandsAt, situation_of}
+use Rattle.machine_events.specs.Configurations.Phase.{Waiting}
 use Rattle.machine_events.specs.Events.{IsEvent, AreEvents}
 use Rattle.machine_events.specs.Logs.{IsLegal, IsClosed, IsBounded, commits_of}
 use Rattle.machine_events.specs.Pending.{IsSystem, IsSound, IsCovered, WakePending, IsStuck}
@@ -115,6 +120,25 @@ CountedEventsKeepCovered =
     (system : System) (event : Event) (before next : Configuration) → HasCountingPlan system
     → IsSound system before → IsCovered system before → IsEvent system event before next
     → IsCovered system next
+
+-- ---- who waits
+
+-- whatever events come from the start, who waits does so on a condition of the monitor
+abbrev pub WaitersHaveConditions : Type 0
+WaitersHaveConditions =
+    (system : System) (events : List Event) (last : Configuration) → IsSystem system
+    → AreEvents system events last → (client : ℕ) (place : Place) (condition : ℕ)
+    → StandsAt last.standings client place (Waiting condition)
+    → (which : Condition) × IsCondition system.monitor condition which
+
+-- and in a call of a method that does not assert
+abbrev pub NobodyWaitsToAssert : Type 0
+NobodyWaitsToAssert =
+    (system : System) (events : List Event) (last : Configuration) → IsSystem system
+    → AreEvents system events last → (client : ℕ) (place : Place) (condition : ℕ) (call : Call)
+    → StandsAt last.standings client place (Waiting condition)
+    → call_at system.clients client place ≡ Some call
+    → asserts_in (slice_get system.monitor.methods call.method) ≡ false
 
 -- ---- the plan under which everyone is woken
 

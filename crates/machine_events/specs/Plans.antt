@@ -92,7 +92,7 @@ pub record IsLawful (monitor : MonitorParts) (plan : Plan) : Type 0 where
       → EachNoteOn plan condition (λ note. note.all ≡ true)
   -- after a block of a condition of kind signal its guard is false, or the block has a note on it
   pub signals : (number : ℕ) (block : Block) → slice_get monitor.blocks number ≡ Some block
-      → condition_kind plan block.condition ≡ Some kinds.Signal
+      → 1 ≤ block.condition → condition_kind plan block.condition ≡ Some kinds.Signal
       → OneEnough monitor plan.kept block.condition number
       ⊎ (has_note (notes_at plan number) block.condition ≡ true)
 

@@ -10,6 +10,7 @@ ghost use Rattle.machine_events.specs.Laws.{EveryoneFits, EveryoneIsLawful, Bodi
 ghost use Rattle.machine_events.specs.Laws.{KeptApplies, NoneNeededApplies, OneEnoughApplies};
 ghost use Rattle.machine_events.specs.Laws.{NoTestApplies, LegalLogsRun, ClosedIsTheEnd};
 ghost use Rattle.machine_events.specs.Laws.{LogsAreBounded, LogsSayCommits};
+ghost use Rattle.machine_events.specs.Laws.{WaitersHaveConditions, NobodyWaitsToAssert};
 
 /// Whatever events come from the start of a system with a lawful plan, spurious wake-ups among
 /// them: where no one owns the lock and a client waits whose guard is true, some client is woken on
@@ -35,6 +36,13 @@ pub fn counting_loses_no_wakeup()
 pub fn events_keep()
     ensures sound { EventsKeepSound }
     ensures covered { EventsKeepCovered }
+{}
+
+/// Whatever events come from the start, who waits does so on a condition that there is, and in a
+/// call of a method that does not assert.
+pub fn nobody_waits_to_assert()
+    ensures conditions { WaitersHaveConditions }
+    ensures methods { NobodyWaitsToAssert }
 {}
 
 /// The commits after a legal log are a run of the implicit machine to the state and the places of

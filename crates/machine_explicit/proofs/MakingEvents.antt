@@ -1,5 +1,5 @@
 -- The events of the machine as the code keeps it.
-use Rattle.std.proofs.Common.{◌≡◌, ◌==◌, ◌&&◌, ℕ, zero, suc, ◌<◌, ◌≤◌, true, false, List, [], ◌∷◌, ◌++◌, map, set, drop, length, get_or, Option, Some, None, refl, sym, ap, subst, ◌∙◌, arith, inl, inr}
+use Rattle.std.proofs.Common.{◌≡◌, ◌==◌, ◌&&◌, ℕ, zero, suc, ◌<◌, ◌≤◌, Bool, true, false, cond, List, [], ◌∷◌, ◌++◌, map, set, drop, length, get_or, Option, Some, None, refl, sym, ap, subst, ◌∙◌, arith, inl, inr}
 use Rattle.std.specs.Prelude.{slice_get}
 use Rattle.std.specs.Option.{option_map_or}
 use Rattle.std.proofs.lemmas.List.{drop_all, length_push, map-set}
@@ -28,7 +28,7 @@ use Rattle.machine_explicit.specs.declared.position.Position.{Position}
 use Rattle.machine_events.specs.Plans.{notes_at}
 use Rattle.machine_events.specs.Configurations.{System, Phase, Standing, Configuration, StandsAt, put, situation_of, guard_of, block_condition, waited_condition}
 use Rattle.machine_events.specs.Configurations.Phase.{Waiting, Inside, Notifying}
-use Rattle.machine_events.specs.Events.{IsEvent, StepsInside, Runs, Refuses, Waits, WaitsOrRefuses, notes_after}
+use Rattle.machine_events.specs.Events.{IsEvent, StepsInside, Runs, Refuses, Waits, WaitsOrRefuses, own_signal, notes_after}
 use Rattle.machine_events.specs.Pending.{IsSystem, has_begun}
 use Rattle.machine_explicit.specs.Machines.{Machine, IsMachine, NotAllowed}
 use Rattle.machine_explicit.specs.inner.Positions.{phase_of, standing_of, machine_of, PositionAt, HasStepped, doing_after, HasFinished}
@@ -187,7 +187,11 @@ waits_now plan positions client place condition inside =
 -- ---- a client inside that makes its step
 
 notes_next : (system : System) (block : ℕ) (reply : Reply) → phase_of system.plan (doing_after system.monitor block reply) ≡ Notifying (notes_after system block reply)
-notes_next system block replies.Overflow = refl
+notes_next system block replies.Overflow = by (block_condition system.monitor block == 0)
+  where
+    by : (none : Bool) → phase_of system.plan (cond none doings.Unlocking (doings.Signalling (block_condition system.monitor block))) ≡ Notifying (cond none [] (own_signal system block ∷ []))
+    by true = refl
+    by false = refl
 notes_next system block replies.Refused = refl
 notes_next system block replies.Unit = refl
 notes_next system block (replies.Int number) = refl

@@ -1,17 +1,15 @@
 -- Who waits, and who was woken, as the code finds it.
-use Rattle.std.proofs.Common.{◌≡◌, ◌↔◌, ℕ, ◌+◌, ◌-◌, ◌<◌, true, false, List, map, length, Option, Some, None, refl, sym, ap, subst, ◌∙◌, arith, inl, inr}
+use Rattle.std.proofs.Common.{◌≡◌, ◌↔◌, ℕ, ◌+◌, ◌-◌, ◌<◌, ◌≤◌, true, false, List, map, length, Option, Some, None, refl, sym, ap, subst, ◌∙◌, arith, inl, inr}
 use Rattle.std.specs.Prelude.{slice_get}
 use Rattle.std.proofs.lemmas.Option.{same_Some, slice_get_within}
 use Rattle.std.proofs.lemmas.Bool.{true≢false, cases_eq}
 use Rattle.std.specs.Option.{option_map_or}
 use Rattle.lang_monitor.specs.MonitorParts.{MonitorParts, IsMonitor}
-use Rattle.lang_monitor.specs.Conditions.{HasCondition}
 use Rattle.lang_monitor.specs.declared.monitor.Block.{Block}
-use Rattle.lang_monitor.specs.declared.monitor.Condition.{Condition}
 use Rattle.machine_implicit.specs.declared.script.Call.{Call}
 use Rattle.machine_implicit.specs.declared.script.Client.{Client}
 use Rattle.machine_implicit.specs.Places.{call_at, block_at}
-use Rattle.machine_events.proofs.Facing.{all_at, is_some_and}
+use Rattle.machine_events.proofs.Facing.{own_guard}
 use Rattle.machine_events.specs.declared.plan.Plan.{Plan}
 use Rattle.machine_events.specs.Configurations.{Standing, StandsAt, System, block_condition, waited_condition}
 use Rattle.machine_events.specs.Configurations.Phase.{Waiting, Notifying}
@@ -32,10 +30,13 @@ condition_within monitor block rule = by_cases (slice_get monitor.blocks block) 
   where
     by_cases : (found : Option Block) → slice_get monitor.blocks block ≡ found → option_map_or (λ (one : Block). one.condition) found 0 < length monitor.conditions + 1
     by_cases None is = omega arith
-    by_cases (Some one) is =
-        let has : HasCondition monitor.conditions one = all_at (HasCondition monitor.conditions) monitor.blocks block one is rule.conditions in
-        let at = is_some_and (slice_get monitor.conditions (one.condition - 1)) (λ (condition : Condition). condition.guard ≡ one.guard) has.1 in
-        omega (arith, has.0, slice_get_within monitor.conditions (one.condition - 1) at.0 at.1)
+    by_cases (Some one) is = elim (cases_eq one.condition 0) [
+      | inl none ↦ omega (arith, none)
+      | inr some ↦
+          let numbered : 1 ≤ one.condition = omega (arith, some) in
+          let own = own_guard monitor block one rule is numbered in
+          omega (arith, numbered, slice_get_within monitor.conditions (one.condition - 1) own.0 own.1.is.there)
+    ]
 
 waited_within : (system : System) (client : ℕ) (place : Place) → IsMonitor system.monitor → waited_condition system client place < length system.monitor.conditions + 1
 waited_within system client place rule = by_cases (call_at system.clients client place)

@@ -6,7 +6,8 @@ ghost use Rattle.machine_implicit.specs.declared.place.Place.{Place};
 ghost use Rattle.machine_events.specs.Plans.{notes_at};
 ghost use Rattle.machine_explicit.specs.inner.Positions.{HasFinished, HasNoNext, HasNotes};
 ghost use Rattle.machine_explicit.specs.inner.Positions.{IsNext, IsNoteOf};
-ghost use Rattle.machine_explicit.specs.inner.Positions.{CanTest, doing_after, fires_in};
+ghost use Rattle.machine_explicit.specs.inner.Positions.{CanTest, after_overflow, doing_after};
+ghost use Rattle.machine_explicit.specs.inner.Positions.{fires_in};
 
 use super::calls::condition_of;
 use super::position::{Doing, Position};
@@ -37,13 +38,23 @@ pub fn doing_after(monitor: &Monitor, block: u32, reply: Reply) -> Doing
     ensures { result ≡ doing_after monitor.now block reply }
 {
     match reply {
-        Reply::Overflow => Doing::Signalling {
-            condition: condition_of(monitor, block),
-        },
+        Reply::Overflow => after_overflow(condition_of(monitor, block)),
         Reply::Refused => Doing::Unlocking,
         Reply::Unit => Doing::Notifying { block, from: 0 },
         Reply::Int(_) => Doing::Notifying { block, from: 0 },
         Reply::Bool(_) => Doing::Notifying { block, from: 0 },
+    }
+}
+
+/// What a client does after an overflow of a block of this condition: one that asserts has none,
+/// and so nobody to signal.
+fn after_overflow(condition: u32) -> Doing
+    ensures { result ≡ after_overflow condition }
+{
+    if condition == 0 {
+        Doing::Unlocking
+    } else {
+        Doing::Signalling { condition }
     }
 }
 

@@ -10,7 +10,7 @@ use Rattle.lang_monitor.specs.declared.monitor.Block.{Block}
 use Rattle.lang_monitor.specs.declared.monitor.Method.{Method}
 use Rattle.lang_monitor.specs.declared.monitor.Ret.{Ret}
 use Rattle.lang_monitor.specs.declared.monitor.Ret.TheVariants as rets
-use Rattle.lang_monitor.specs.MonitorParts.{MonitorParts, IsMonitor, IsBlockOf, first_in, count_in}
+use Rattle.lang_monitor.specs.MonitorParts.{MonitorParts, IsMonitor, IsBlockOf, asserts_in, first_in, count_in}
 use Rattle.lang_monitor.specs.Bodies.{Inputs, Memory, after, result_value}
 use Rattle.machine_implicit.specs.declared.commit.Reply.{Reply}
 use Rattle.machine_implicit.specs.declared.commit.Reply.TheVariants as replies
@@ -18,7 +18,9 @@ use Rattle.machine_implicit.specs.declared.script.Call.{Call}
 use Rattle.machine_implicit.specs.declared.script.Client.{Client}
 use Rattle.machine_implicit.specs.Steps.{BlockSteps, guard_truth, reply_of}
 use Rattle.machine_implicit.specs.declared.place.Place.{Place}
-use Rattle.machine_implicit.specs.Places.{call_at, block_at, inputs_at, guard_at, tries_at, IsCallStep, IsStep}
+use Rattle.machine_implicit.specs.Places.{call_at, block_at, inputs_at, guard_at, tries_at, FitsPlace, FitsPlaceAt, IsCallStep, IsStep}
+use Rattle.machine_implicit.specs.Scripted.{FitsCall, FitsScripts, calls_of}
+use Rattle.machine_implicit.proofs.Fitting.{all_at, calls_fit}
 
 -- ---- refused
 
@@ -56,6 +58,24 @@ pub refused_exactly : (monitor : MonitorParts) (clients : List Client) (client :
     → IsStep monitor clients client place state reply next goes
     → (reply ≡ replies.Refused) ↔ ((tries_at clients client place ≡ true) × (guard_at monitor clients state client place ≡ false))
 refused_exactly monitor clients client place state reply next goes step = refused_by monitor clients client place state reply step.call step.memory step.at step.step
+
+-- ---- calls of methods that assert
+
+-- such a call tries, at the only block that there is
+asserting_tries : (monitor : MonitorParts) (call : Call) (place : Place) (found : Option Method) → IsMonitor monitor → FitsCall monitor call → slice_get monitor.methods call.method ≡ found
+    → place.block < count_in found → asserts_in found ≡ true → (call.tries && place.block == 0) ≡ true
+asserting_tries monitor call place None rule fits is within asserts = absurd (omega (arith, within))
+asserting_tries monitor call place (Some method) rule fits is within asserts =
+    let alone = (rule.methods call.method method is).alone asserts in
+    and_from call.tries (place.block == 0) (fits.tries (ap asserts_in is ∙ asserts)) (eq-eqb place.block 0 (omega (arith, within, alone)))
+
+pub assertions_try : (monitor : MonitorParts) (clients : List Client) (client : ℕ) (place : Place) (call : Call) → IsMonitor monitor → FitsScripts monitor clients
+    → FitsPlace monitor clients client place → call_at clients client place ≡ Some call
+    → asserts_in (slice_get monitor.methods call.method) ≡ true → tries_at clients client place ≡ true
+assertions_try monitor clients client place call rule fits fit_place at asserts =
+    let here : FitsPlaceAt monitor place (Some call) = subst (FitsPlaceAt monitor place) at fit_place in
+    let fit = all_at (FitsCall monitor) (calls_of clients client) place.past call at (calls_fit monitor clients client fits) in
+    ap (λ (one : Option Call). option_map_or (λ call. call.tries && place.block == 0) one false) at ∙ asserting_tries monitor call place (slice_get monitor.methods call.method) rule fit refl here.0 asserts
 
 -- ---- a block before the last
 

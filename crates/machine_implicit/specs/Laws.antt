@@ -2,7 +2,7 @@
 use Rattle.std.specs.Prelude.{◌≡◌, ◌↔◌, ◌⊎◌, ◌+◌, ◌<◌, ◌≤◌, ℕ, true, false, List, Some, length}
 use Rattle.std.specs.Prelude.{slice_get}
 use Rattle.lang_base.specs.declared.value.Value.{Value}
-use Rattle.lang_monitor.specs.MonitorParts.{MonitorParts, IsMonitor, count_in}
+use Rattle.lang_monitor.specs.MonitorParts.{MonitorParts, IsMonitor, asserts_in, count_in}
 use Rattle.machine_implicit.specs.declared.commit.Commit.{Commit}
 use Rattle.machine_implicit.specs.declared.commit.Reply.{Reply}
 use Rattle.machine_implicit.specs.declared.commit.Reply.TheVariants as replies
@@ -10,7 +10,7 @@ use Rattle.machine_implicit.specs.declared.script.Call.{Call}
 use Rattle.machine_implicit.specs.declared.script.Client.{Client}
 use Rattle.machine_implicit.specs.Scripted.{FitsScripts, all_blocks}
 use Rattle.machine_implicit.specs.declared.place.Place.{Place}
-use Rattle.machine_implicit.specs.Places.{call_at, guard_at, tries_at, IsStep}
+use Rattle.machine_implicit.specs.Places.{call_at, guard_at, tries_at, FitsPlace, IsStep}
 use Rattle.machine_implicit.specs.Runs.{Situation, IsRun, Ends, FitsSituation}
 
 -- after a history there is one situation
@@ -35,6 +35,15 @@ RefusedExactly = (monitor : MonitorParts) (clients : List Client) (client : ℕ)
     → (reply ≡ replies.Refused)
     ↔ ((tries_at clients client place ≡ true)
     × (guard_at monitor clients state client place ≡ false))
+
+-- a client at a call of a method that asserts does not wait, whatever the state
+abbrev pub AssertionsNeverWait : Type 0
+AssertionsNeverWait = (monitor : MonitorParts) (clients : List Client) (client : ℕ) (place : Place)
+    (call : Call)
+    → IsMonitor monitor → FitsScripts monitor clients → FitsPlace monitor clients client place
+    → call_at clients client place ≡ Some call
+    → asserts_in (slice_get monitor.methods call.method) ≡ true
+    → tries_at clients client place ≡ true
 
 -- a block before its method's last answers nothing
 abbrev pub EarlierBlocksAnswerNothing : Type 0

@@ -1,9 +1,9 @@
 -- Clients and their calls.
-use Rattle.std.specs.Prelude.{◌≢◌, ◌≤◌, ◌<◌, ℕ, List, [], length, All, AllPairs, Option, Some, None}
-use Rattle.std.specs.Prelude.{sum_by, slice_get}
+use Rattle.std.specs.Prelude.{◌≡◌, ◌≢◌, ◌≤◌, ◌<◌, ℕ, true, List, [], length, All, AllPairs, Option}
+use Rattle.std.specs.Prelude.{Some, None, sum_by, slice_get}
 use Rattle.lang_base.specs.Limits.{CLIENTS, CALLS}
 use Rattle.lang_base.specs.Identifiers.{IsIdentifier}
-use Rattle.lang_monitor.specs.MonitorParts.{MonitorParts, count_in}
+use Rattle.lang_monitor.specs.MonitorParts.{MonitorParts, asserts_in, count_in}
 use Rattle.machine_implicit.specs.declared.script.Call.{Call}
 use Rattle.machine_implicit.specs.declared.script.Client.{Client}
 use Rattle.machine_implicit.specs.Steps.{FitsArguments}
@@ -15,10 +15,12 @@ pub record AreClients (clients : List Client) : Type 0 where
   pub distinct : AllPairs (λ client other. client.name ≢ other.name) clients
   pub few_calls : sum_by (λ client. length client.calls) clients ≤ CALLS
 
--- the call is of a method of the monitor, with a value for each parameter
+-- the call is of a method of the monitor, with a value for each parameter; of a method that
+-- asserts it tries
 pub record FitsCall (monitor : MonitorParts) (call : Call) : Type 0 where
   pub method : call.method < length monitor.methods
   pub inputs : FitsArguments monitor call.method call.inputs
+  pub tries : asserts_in (slice_get monitor.methods call.method) ≡ true → call.tries ≡ true
 
 -- each call fits the monitor
 abbrev pub FitsScripts : MonitorParts → List Client → Type 0

@@ -7,6 +7,7 @@ ghost use Rattle.machine_implicit.specs.declared.commit.Turns.{Turns};
 ghost use Rattle.machine_implicit.specs.Rounds.{AreTurnsByRounds};
 ghost use Rattle.machine_implicit.specs.Laws.{OneSituation, EndsHoldNoGuard};
 ghost use Rattle.machine_implicit.specs.Laws.{RefusedExactly, EarlierBlocksAnswerNothing};
+ghost use Rattle.machine_implicit.specs.Laws.{AssertionsNeverWait};
 ghost use Rattle.machine_implicit.specs.Laws.{RunsFit, RunsAreShort};
 
 /// The run by rounds is one run: any two that are by rounds, of one monitor and clients, to their
@@ -24,10 +25,11 @@ pub fn one_situation()
     ensures ends { EndsHoldNoGuard }
 {}
 
-/// A call is refused exactly at its first block, where it tries and the guard is false; and a block
-/// before its method's last answers nothing.
+/// A call is refused exactly at its first block, where it tries and the guard is false, which each
+/// call of a method that asserts does; and a block before its method's last answers nothing.
 pub fn replies_say()
     ensures refused { RefusedExactly }
+    ensures asserts { AssertionsNeverWait }
     ensures nothing { EarlierBlocksAnswerNothing }
 {}
 

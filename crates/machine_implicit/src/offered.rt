@@ -54,8 +54,9 @@ fn have_few_calls(clients: &[Client]) -> bool
     true
 }
 
-/// Whether each call of each client fits the monitor: its method is one of the monitor's, and its
-/// inputs are a value of the kind of each parameter. It is what [`turns`](crate::turns) asks for.
+/// Whether each call of each client fits the monitor: its method is one of the monitor's, its
+/// inputs are a value of the kind of each parameter, and where the method asserts it tries. It is
+/// what [`turns`](crate::turns) asks for.
 pub fn scripts_fit(monitor: &Monitor, clients: &[Client]) -> bool
     ensures { IsTrue result ↔ FitsScripts monitor.now clients.now }
 {
@@ -71,12 +72,16 @@ fn calls_fit(monitor: &Monitor, calls: &[Call]) -> bool
     calls.iter().all(|call| call_fits(monitor, call))
 }
 
-/// Whether a call is of a method of the monitor, with a value for each parameter.
+/// Whether a call is of a method of the monitor, with a value for each parameter, and tries where
+/// that method asserts.
 pub fn call_fits(monitor: &Monitor, call: &Call) -> bool
     ensures { IsTrue result ↔ FitsCall monitor.now call.now }
 {
     match monitor.methods().get(call.method as usize) {
-        Some(method) => are_of_kinds(method.inputs.items(), call.inputs.items()),
+        Some(method) => {
+            (call.tries || !method.asserts)
+                && are_of_kinds(method.inputs.items(), call.inputs.items())
+        }
         None => false,
     }
 }

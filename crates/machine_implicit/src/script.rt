@@ -7,7 +7,7 @@ use lang_base::{Name, Named, Value};
 use std::marker::Model;
 
 /// A call of a method, counted from 0, with a value for each of its parameters. One that tries does
-/// not wait at its first block.
+/// not wait at its first block. Each call of a method that asserts tries.
 #[derive(Debug, Drop)]
 pub struct Call {
     pub method: u32,

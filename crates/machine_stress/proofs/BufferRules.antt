@@ -1,8 +1,9 @@
 -- The buffer meets the rule of a monitor.
-use Rattle.std.proofs.Common.{◌≡◌, ◌≢◌, ℕ, zero, suc, ◌+◌, ◌^◌, ◌<◌, ◌≤◌, Bool, true, ◌&&◌, pos, neg_ℤ, ◌-ℤ◌, List, [], ◌∷◌, get_or, codes, refl, sym, ap, ap₂, subst, ◌∙◌, arith}
+use Rattle.std.proofs.Common.{◌≡◌, ◌≢◌, ℕ, zero, suc, ◌+◌, ◌^◌, ◌<◌, ◌≤◌, Bool, true, false, ◌&&◌, pos, neg_ℤ, ◌-ℤ◌, List, [], ◌∷◌, get_or, codes, refl, sym, ap, ap₂, subst, ◌∙◌, arith}
 use Rattle.std.specs.Prelude.{IsSomeAnd, Option, Some, slice_get}
 use Rattle.std.specs.List.{AllPairs, list_any}
 use Rattle.std.proofs.lemmas.Int.{ints}
+use Rattle.std.proofs.lemmas.Bool.{true≢false}
 use Rattle.std.proofs.lemmas.Option.{none-some, same_Some}
 use Rattle.std.proofs.lemmas.List.Elements.{All-nil, All-cons}
 use Rattle.std.proofs.lemmas.List.Kept.{AllPairs-cons}
@@ -138,7 +139,7 @@ one_block : (capacity number : ℕ) (name : List ℕ) (block : Block)
     → slice_get (blocks_of capacity) number ≡ Some block
     → IsBlockOf (buffer_of capacity) number 0 (plain_method name number) block
     → IsMethod (buffer_of capacity) number (plain_method name number)
-one_block capacity number name block is about = record { few_inputs = omega arith; few_locals = omega arith; some = omega arith; few = omega arith; blocks = by_place }
+one_block capacity number name block is about = record { few_inputs = omega arith; few_locals = omega arith; some = omega arith; few = omega arith; alone = λ asserts. refl; blocks = by_place }
   where
     by_place : (place : ℕ) → place < 1
         → IsSomeAnd (slice_get (blocks_of capacity) (number + place))
@@ -148,17 +149,20 @@ one_block capacity number name block is about = record { few_inputs = omega arit
         subst (λ (found : Option Block). IsSomeAnd found (λ block. IsBlockOf (buffer_of capacity) number 0 (plain_method name number) block)) (sym (ap (slice_get (blocks_of capacity)) same ∙ is)) about
     by_place (suc place) within = absurd (omega arith)
 
+asserts_not : {P : Type 0} → false ≡ true → P
+asserts_not is = absurd (true≢false (sym is))
+
 methods_fit : (capacity : ℕ) → capacity ≤ 7 → (number : ℕ) (method : Method)
     → slice_get (methods_of capacity) number ≡ Some method
     → IsMethod (buffer_of capacity) number method
 methods_fit capacity few zero method is =
     let put = counting_block 0 (has_room capacity) (count_and (pos 1)) in
     subst (IsMethod (buffer_of capacity) 0) (same_Some (plain_method (codes "put") 0) method is)
-    (one_block capacity 0 (codes "put") put refl (record { of = refl; fits = put_fits capacity few; answers = λ more. refl }))
+    (one_block capacity 0 (codes "put") put refl (record { of = refl; fits = put_fits capacity few; answers = λ more. refl; waits = (λ none. absurd (omega (arith, none)), asserts_not) }))
 methods_fit capacity few (suc zero) method is =
     let get = counting_block 1 has_some (count_and (neg_ℤ (pos 1))) in
     subst (IsMethod (buffer_of capacity) 1) (same_Some (plain_method (codes "get") 1) method is)
-    (one_block capacity 1 (codes "get") get refl (record { of = refl; fits = get_fits; answers = λ more. refl }))
+    (one_block capacity 1 (codes "get") get refl (record { of = refl; fits = get_fits; answers = λ more. refl; waits = (λ none. absurd (omega (arith, none)), asserts_not) }))
 methods_fit capacity few (suc (suc number)) method is = absurd (none-some method is)
 
 blocks_owned : (capacity number : ℕ) (block : Block)
@@ -194,8 +198,8 @@ buffer_rule capacity few =
       methods = methods_fit capacity few;
       in_turn = (refl, (refl, refl));
       owned = blocks_owned capacity;
-      conditions = All-cons (HasCondition (room ∷ some ∷ [])) put (get ∷ []) (omega arith, refl)
-          (All-cons (HasCondition (room ∷ some ∷ [])) get [] (omega arith, refl) (All-nil (HasCondition (room ∷ some ∷ []))));
+      conditions = All-cons (HasCondition (room ∷ some ∷ [])) put (get ∷ []) (λ numbered. refl)
+          (All-cons (HasCondition (room ∷ some ∷ [])) get [] (λ numbered. refl) (All-nil (HasCondition (room ∷ some ∷ []))));
       described = All-cons IsDescribed room (some ∷ []) (room_described capacity) (All-cons IsDescribed some [] some_described (All-nil IsDescribed));
       different = AllPairs-cons HasOther room (some ∷ []) (All-cons (HasOther room) some [] (guards_differ capacity few) (All-nil (HasOther room)))
           (AllPairs-cons HasOther some [] (All-nil (HasOther some)) (λ i j d less within. absurd (omega arith)));

@@ -3,7 +3,7 @@ use Rattle.std.proofs.Common.{◌≡◌, ◌≢◌, ℕ, zero, suc, ◌+◌, ◌
 use Rattle.std.specs.Prelude.{decimal, nat_le, sum_by}
 use Rattle.std.specs.List.{All, AllPairs, list_all, range_with_len}
 use Rattle.std.specs.Str.{bytes_eq}
-use Rattle.std.proofs.lemmas.Bool.{leb-true}
+use Rattle.std.proofs.lemmas.Bool.{leb-true, true≢false}
 use Rattle.std.proofs.lemmas.Bool.Decides.{nat_tests}
 use Rattle.std.proofs.lemmas.Fmt.{decimal_digit, decimal_step}
 use Rattle.std.proofs.lemmas.List.{length-replicate}
@@ -180,8 +180,8 @@ all_fit : (capacity producers consumers calls : ℕ) → FitsScripts (buffer_of 
 unfolding clients_of
 all_fit capacity producers consumers calls =
     All-append (CallsFit capacity) (callers (codes "P") 0 calls producers) (callers (codes "G") 1 calls consumers)
-    (each_fits capacity (codes "P") 0 calls 1 producers (record { method = omega arith; inputs = tt }))
-    (each_fits capacity (codes "G") 1 calls 1 consumers (record { method = omega arith; inputs = tt }))
+    (each_fits capacity (codes "P") 0 calls 1 producers (record { method = omega arith; inputs = tt; tries = λ asserts. absurd (true≢false (sym asserts)) }))
+    (each_fits capacity (codes "G") 1 calls 1 consumers (record { method = omega arith; inputs = tt; tries = λ asserts. absurd (true≢false (sym asserts)) }))
 
 pub calls_fit : (capacity : ℕ) (monitor : MonitorParts) (clients : List Client) → monitor ≡ buffer_of capacity → clients ≡ producers_and_consumers → FitsScripts monitor clients
 calls_fit capacity monitor clients is are =

@@ -85,8 +85,14 @@ count_field = record { name = codes "count"; kind = kinds.Int; start = values.In
 
 -- a method of no inputs and no locals, and its block, which waits on the condition of its guard
 abbrev pub plain_method : List ℕ → ℕ → Method
-plain_method name number =
-    record { name = name; inputs = []; locals = []; first = number; count = 1 }
+plain_method name number = record {
+  name = name;
+  inputs = [];
+  locals = [];
+  asserts = false;
+  first = number;
+  count = 1;
+}
 
 abbrev pub counting_block : ℕ → Formula → Linear → Block
 counting_block number guard form = record {

@@ -71,6 +71,7 @@ fn plain_method(alloc: Global, name: &[u8], number: u32) -> Result<Method, Alloc
         name: name_of(alloc, name)?,
         inputs: Seq::of(Vec::new(alloc)),
         locals: Seq::of(Vec::new(alloc)),
+        asserts: false,
         first: number,
         count: 1,
     })

@@ -221,7 +221,7 @@ passed_on : (monitor : MonitorParts) (plan : Plan) (columns : columns_type) (num
     → AreColumns monitor plan columns → 1 ≤ number → number ≤ length monitor.conditions → column_at columns number ≡ None
     → condition_kind plan number ≡ Some kinds.Signal → IsPassedOn monitor (counted_of plan columns) number
 passed_on monitor plan columns number fits lawful are first last none kind index block there same =
-    elim (lawful.signals index block there (ap (condition_kind plan) same ∙ kind)) [
+    elim (lawful.signals index block there (omega (arith, same, first)) (ap (condition_kind plan) same ∙ kind)) [
       | inl enough ↦ inl (subst (λ (n : ℕ). OneEnough monitor plan.kept n index) same enough)
       | inr has ↦ inr (still (ap (has_note (notes_at plan index)) (sym same) ∙ has))
     ]

@@ -11,7 +11,7 @@ use Rattle.lang_monitor.specs.declared.claim.Claim.TheVariants as claims
 use Rattle.lang_monitor.specs.declared.monitor.Block.{Block}
 use Rattle.lang_monitor.specs.declared.monitor.Condition.{Condition}
 use Rattle.lang_monitor.specs.MonitorParts.{MonitorParts, IsMonitor}
-use Rattle.lang_monitor.specs.Conditions.{HasCondition, IsDescribed}
+use Rattle.lang_monitor.specs.Conditions.{IsDescribed}
 use Rattle.lang_monitor.specs.Inputs.{reads_inputs}
 use Rattle.lang_monitor.specs.Triples.{Holds, NoneNeeded, OneEnough, NoTestNeeded}
 use Rattle.machine_events.specs.declared.plan.CondKind.{CondKind}
@@ -175,10 +175,9 @@ plan_lawful laws monitor plan rule answered = record {
       };
   broadcasts = λ condition kind block. each_note (λ (note : Note). note.condition ≡ condition → note.all ≡ true) monitor plan block answered
       (λ note known same. wakes_all note.all (same_kind (sym known.kind ∙ ap (condition_kind plan) same ∙ kind)));
-  signals = λ number block there kind.
-      let condition = all_at (HasCondition monitor.conditions) monitor.blocks number block there rule.conditions in
+  signals = λ number block there numbered kind.
       let waits : WaitsAt monitor number block.condition = subst (λ (one : Option Block). IsSomeAnd one (λ held. held.condition ≡ block.condition)) (sym there) refl in
-      inl (one_enough laws monitor plan number block.condition rule answered kind condition.0 waits);
+      inl (one_enough laws monitor plan number block.condition rule answered kind numbered waits);
 }
   where
     same_kind : {one other : CondKind} → Some one ≡ Some other → one ≡ other

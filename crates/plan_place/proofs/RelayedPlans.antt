@@ -321,7 +321,7 @@ signals_stay : (monitor : MonitorParts) (plan : Plan) (number : ℕ) (block : Bl
     → slice_get monitor.blocks number ≡ Some block → 1 ≤ block.condition → block.condition ≤ length monitor.conditions
     → (was : CondKind) → condition_kind plan block.condition ≡ Some was → relayed_kind monitor block.condition was ≡ kinds.Signal
     → OneEnough monitor plan.kept block.condition number ⊎ (has_note (notes_at (relay_of monitor plan) number) block.condition ≡ true)
-signals_stay monitor plan number block fits lawful there first last kinds.Signal was becomes = elim (lawful.signals number block there was) [
+signals_stay monitor plan number block fits lawful there first last kinds.Signal was becomes = elim (lawful.signals number block there first was) [
   | inl enough ↦ inl enough
   | inr has ↦ inr (omits_no_more monitor plan number block.condition fits has)
 ]
@@ -342,9 +342,9 @@ relayed_lawful monitor plan rule fits lawful = record {
             (λ note on was. record { all = still_all monitor number inputs note on was.all; untested = was.untested }) wakes.notes;
       };
   broadcasts = broadcasts_stay monitor plan lawful;
-  signals = λ number block there kind.
+  signals = λ number block there numbered kind.
       let has = all_at (HasCondition monitor.conditions) monitor.blocks number block there rule.conditions in
-      let low = within_some monitor.conditions (block.condition - 1) (λ condition. condition.guard ≡ block.guard) has.1 in
-      let was = kind_was monitor plan block.condition kinds.Signal has.0 kind in
-      signals_stay monitor plan number block fits lawful there has.0 (omega (arith, low)) was.was was.there was.becomes;
+      let low = within_some monitor.conditions (block.condition - 1) (λ condition. condition.guard ≡ block.guard) (has numbered) in
+      let was = kind_was monitor plan block.condition kinds.Signal numbered kind in
+      signals_stay monitor plan number block fits lawful there numbered (omega (arith, low)) was.was was.there was.becomes;
 }

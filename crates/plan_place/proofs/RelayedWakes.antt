@@ -1,6 +1,6 @@
 -- Under a relayed plan a section wakes, of the clients that wait on a condition that reads no
 -- inputs, one at most.
-use Rattle.std.proofs.Common.{◌≡◌, ◌⊎◌, inl, inr, ℕ, ◌^◌, Bool, true, false, not, ◌&&◌, List, [], ◌∷◌, Option, Some, None, refl, sym, ap, subst, ◌∙◌}
+use Rattle.std.proofs.Common.{◌≡◌, ◌==◌, ◌⊎◌, inl, inr, ℕ, ◌^◌, Bool, true, false, not, cond, ◌&&◌, List, [], ◌∷◌, Option, Some, None, refl, sym, ap, subst, ◌∙◌}
 use Rattle.std.specs.Prelude.{All, IsBitSet}
 use Rattle.std.specs.Int.Bits.{and_zero_l, bit_and}
 use Rattle.std.proofs.lemmas.Bool.{true≢false, cases_eq, ne_eqb}
@@ -17,7 +17,7 @@ use Rattle.machine_events.specs.declared.log.Outcome.{Outcome}
 use Rattle.machine_events.specs.declared.log.Outcome.TheVariants as outcomes
 use Rattle.machine_events.specs.declared.plan.Note.{Note}
 use Rattle.machine_events.specs.declared.plan.Plan.{Plan}
-use Rattle.machine_events.specs.Configurations.{System, Phase, Standing, Configuration, StandsAt, system_under}
+use Rattle.machine_events.specs.Configurations.{System, Phase, Standing, Configuration, StandsAt, block_condition, system_under}
 use Rattle.machine_events.specs.Configurations.Phase.{Idle, Entering, Waiting}
 use Rattle.machine_events.specs.Configurations.Phase.{Woken, Inside, Notifying}
 use Rattle.machine_events.specs.Events.{Locks, Notifies, StepsInside, Unlocks, Wakes, notes_after, own_signal}
@@ -206,19 +206,28 @@ relayed_once monitor plan condition block =
     of_each (OnceOn condition) monitor plan block tt (λ notes is.
     once_made condition (made_on monitor plan.kinds block notes) (on_theirs monitor plan.kinds block notes) 1 _)
 
+-- after an overflow: the one signal, or none
+once_own : (system : System) (condition block : ℕ) (none : Bool) → OnceOn condition (cond none [] (own_signal system block ∷ []))
+once_own system condition block true = tt
+once_own system condition block false = ((λ same. tt), tt)
+
+signals_own : (system : System) (condition block : ℕ) (none : Bool) → AreSignals condition (cond none [] (own_signal system block ∷ []))
+signals_own system condition block true = All-nil (λ (note : Note). note.condition ≡ condition → note.all ≡ false)
+signals_own system condition block false =
+    All-cons (λ (note : Note). note.condition ≡ condition → note.all ≡ false) (own_signal system block) [] (λ same. refl) (All-nil (λ (note : Note). note.condition ≡ condition → note.all ≡ false))
+
 once_after : (system : System) (condition block : ℕ) (reply : Reply) → OnceOn condition (notes_at system.plan block) → OnceOn condition (notes_after system block reply)
 once_after system condition block replies.Unit once = once
 once_after system condition block (replies.Int number) once = once
 once_after system condition block (replies.Bool truth) once = once
-once_after system condition block replies.Overflow once = ((λ same. tt), tt)
+once_after system condition block replies.Overflow once = once_own system condition block (block_condition system.monitor block == 0)
 once_after system condition block replies.Refused once = tt
 
 signals_after : (system : System) (condition block : ℕ) (reply : Reply) → AreSignals condition (notes_at system.plan block) → AreSignals condition (notes_after system block reply)
 signals_after system condition block replies.Unit signals = signals
 signals_after system condition block (replies.Int number) signals = signals
 signals_after system condition block (replies.Bool truth) signals = signals
-signals_after system condition block replies.Overflow signals =
-    All-cons (λ (note : Note). note.condition ≡ condition → note.all ≡ false) (own_signal system block) [] (λ same. refl) (All-nil (λ (note : Note). note.condition ≡ condition → note.all ≡ false))
+signals_after system condition block replies.Overflow signals = signals_own system condition block (block_condition system.monitor block == 0)
 signals_after system condition block replies.Refused signals = All-nil (λ (note : Note). note.condition ≡ condition → note.all ≡ false)
 
 -- ---- sections

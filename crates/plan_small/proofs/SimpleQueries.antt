@@ -1,6 +1,6 @@
 -- Where blocks are simple, negated queries have difference rows alone, so that a small monitor is
 -- plain.
-use Rattle.std.proofs.Common.{◌≡◌, ℕ, zero, suc, pos, ◌-◌, ◌==◌, Bool, true, false, cond, ◌&&◌, List, [], ◌∷◌, ◌++◌, map, Option, Some, None, refl, sym, ap, subst, ◌∙◌}
+use Rattle.std.proofs.Common.{◌≡◌, ℕ, zero, suc, pos, ◌-◌, ◌==◌, Bool, true, false, cond, ◌&&◌, List, [], ◌∷◌, ◌++◌, map, Option, Some, None, refl, sym, ap, subst, ◌∙◌, arith}
 use Rattle.std.specs.Prelude.{IsSomeAnd, nat_lt, slice_get}
 use Rattle.std.specs.List.{flat_map, list_all}
 use Rattle.std.proofs.lemmas.Bool.{and_from, and_parts}
@@ -265,8 +265,9 @@ module _ (monitor : MonitorParts) (rule : IsMonitor monitor) (simple : list_all 
       of_first None is has = absurd has
       of_first (Some held) is has =
           let of_block = All-contains (HasCondition monitor.conditions) monitor.blocks held rule.conditions (contained monitor.blocks first.index held is) in
+          let low = number.0 in
           same_guard held (slice_get monitor.conditions (condition - 1))
-          (subst (λ (number : ℕ). IsSomeAnd (slice_get monitor.conditions (number - 1)) (λ one. one.guard ≡ held.guard)) has of_block.1) (simple_at first.index held is).0
+          (subst (λ (number : ℕ). IsSomeAnd (slice_get monitor.conditions (number - 1)) (λ one. one.guard ≡ held.guard)) has (of_block (omega (arith, has, low)))) (simple_at first.index held is).0
 
   waiting_guard_differs : (condition : ℕ) → IsConditionNumber monitor condition → Differs (waiting_guard monitor condition)
   waiting_guard_differs condition number = waiting_differs _ (condition_differs condition number)

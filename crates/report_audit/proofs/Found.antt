@@ -9,7 +9,6 @@ use Rattle.lang_monitor.specs.declared.candidate.Candidate.{Candidate}
 use Rattle.lang_monitor.specs.declared.claim.Claim.{Claim}
 use Rattle.lang_monitor.specs.declared.claim.Claim.TheVariants as claims
 use Rattle.lang_monitor.specs.declared.monitor.Block.{Block}
-use Rattle.lang_monitor.specs.Conditions.{HasCondition}
 use Rattle.lang_monitor.specs.MonitorParts.{MonitorParts, IsMonitor}
 use Rattle.lang_monitor.specs.Triples.{IsInductive, Keeps}
 use Rattle.machine_events.specs.declared.plan.Note.{Note}
@@ -21,7 +20,7 @@ use Rattle.plan_claims.proofs.Backed.{Laws, held, of_kept, of_signal, of_unnoted
 use Rattle.plan_claims.proofs.Lists.{all_filtered}
 use Rattle.report_verdict.specs.Reports.{IsPlanOf}
 use Rattle.report_verdict.specs.Verdicts.{IsLawfulAtSight}
-use Rattle.report_verdict.proofs.Pairs.{all_at, at_place, from_places}
+use Rattle.report_verdict.proofs.Pairs.{at_place, from_places}
 use Rattle.report_audit.specs.Findings.{IsFirstUnproved, IsProved, asked_claims, is_asked}
 use Rattle.report_audit.specs.CountedFindings.{is_common}
 use Rattle.report_audit.specs.inner.Asked.{IsFirstOpen}
@@ -72,13 +71,13 @@ found_lawful laws monitor plan rule of sight certified =
       noted = common.noted;
       reading = sight.reading;
       broadcasts = sight.broadcasts;
-      signals = λ number block there kind. elim (cases_Bool (has_note (notes_at plan number) block.condition)) [
+      signals = λ number block there numbered kind. elim (cases_Bool (has_note (notes_at plan number) block.condition)) [
         | inl has ↦ inr has
         | inr none ↦
             let low = slice_get_within monitor.blocks number block there in
             let waits = subst (λ (o : Option Block). IsSomeAnd o (λ held. held.condition ≡ block.condition)) (sym there) refl in
             inl (held laws monitor plan.kept (claims.One block.condition number) rule low
-            (of_signal P monitor plan number block.condition all kind (all_at (HasCondition monitor.conditions) monitor.blocks number block there rule.conditions).0 waits low
+            (of_signal P monitor plan number block.condition all kind numbered waits low
             (not_from_false (has_note (notes_at plan number) block.condition) none)))
       ];
     }

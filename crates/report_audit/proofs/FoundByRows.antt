@@ -1,6 +1,6 @@
 -- Where no query may stay open, nothing else than that it is lawful is found of a plan that is
 -- lawful by rows of its guards that are tried.
-use Rattle.std.proofs.Common.{◌≡◌, ◌==◌, inl, inr, ℕ, ◌+◌, ◌-◌, Bool, true, false, not, List, ◌++◌, length, Option, Some, None, refl, sym, ap, subst, ◌∙◌, arith}
+use Rattle.std.proofs.Common.{◌≡◌, ◌==◌, inl, inr, ℕ, ◌+◌, ◌-◌, ◌≤◌, Bool, true, false, not, List, ◌++◌, length, Option, Some, None, refl, sym, ap, subst, ◌∙◌, arith}
 use Rattle.std.specs.Prelude.{All, IsSomeAnd, slice_get}
 use Rattle.std.specs.List.{filter, flat_map, enumerate_from}
 use Rattle.std.proofs.lemmas.Bool.{and_parts, eqb-true, not-true, true≢false}
@@ -179,8 +179,8 @@ found_by_rows monitor plan finding rule of none no_question lawful =
     ])
 
 -- each block of a condition of kind signal of a lawful plan passes on
-passes_on : (monitor : MonitorParts) (plan : Plan) (condition : ℕ) → IsLawful monitor plan → condition_kind plan condition ≡ Some kinds.Signal → IsPassedOn monitor plan condition
-passes_on monitor plan condition lawful kind block held there waits = elim (lawful.signals block held there (ap (condition_kind plan) waits ∙ kind)) [
+passes_on : (monitor : MonitorParts) (plan : Plan) (condition : ℕ) → IsLawful monitor plan → 1 ≤ condition → condition_kind plan condition ≡ Some kinds.Signal → IsPassedOn monitor plan condition
+passes_on monitor plan condition lawful first kind block held there waits = elim (lawful.signals block held there (omega (arith, waits, first)) (ap (condition_kind plan) waits ∙ kind)) [
   | inl enough ↦ inl (subst (λ (one : ℕ). OneEnough monitor plan.kept one block) waits enough)
   | inr has ↦ inr (ap (has_note (notes_at plan block)) (sym waits) ∙ has)
 ]
@@ -190,4 +190,4 @@ pub counted_found_of_lawful : (monitor : MonitorParts) (plan : Plan) (finding : 
 counted_found_of_lawful monitor plan finding rule of none lawful =
     let own : IsCommonLawful monitor plan = record { inductive = lawful.inductive; noted = lawful.noted } in
     found_of_common monitor plan finding of none own lawful.reading lawful.broadcasts (λ question is.
-    passed_found monitor plan is.condition is.claim rule of own is.sight none (passes_on monitor plan is.condition lawful is.kind) is.other_way)
+    passed_found monitor plan is.condition is.claim rule of own is.sight none (passes_on monitor plan is.condition lawful is.there.0 is.kind) is.other_way)

@@ -72,12 +72,12 @@ unnoted_told which monitor plan of noted =
       noted (0 + k) condition within first last (ap (λ (own : List Note). has_note own condition) same ∙ not-true (has_note notes condition) passes),
     )))))
 
-one_told : (monitor : MonitorParts) (plan : Plan) (condition block : ℕ) → IsLawful monitor plan → condition_kind plan condition ≡ Some kinds.Signal
+one_told : (monitor : MonitorParts) (plan : Plan) (condition block : ℕ) → IsLawful monitor plan → 1 ≤ condition → condition_kind plan condition ≡ Some kinds.Signal
     → not (has_note (notes_at plan block) condition) ≡ true → (found : Option Block) → slice_get monitor.blocks block ≡ found
     → IsSomeAnd found (λ held. held.condition ≡ condition) → OneEnough monitor plan.kept condition block
-one_told monitor plan condition block lawful kind unnoted None is waits = absurd waits
-one_told monitor plan condition block lawful kind unnoted (Some held) is waits =
-    elim (lawful.signals block held is (ap (condition_kind plan) waits ∙ kind)) [
+one_told monitor plan condition block lawful first kind unnoted None is waits = absurd waits
+one_told monitor plan condition block lawful first kind unnoted (Some held) is waits =
+    elim (lawful.signals block held is (omega (arith, waits, first)) (ap (condition_kind plan) waits ∙ kind)) [
       | inl enough ↦ subst (λ (one : ℕ). OneEnough monitor plan.kept one block) waits enough
       | inr has ↦ absurd (true≢false (sym has ∙ ap (has_note (notes_at plan block)) waits ∙ not-true (has_note (notes_at plan block) condition) unnoted))
     ]
@@ -97,7 +97,7 @@ kinds_told monitor plan rule of lawful sight =
         (passing test (λ block. P (claims.One (1 + k) block)) (block_numbers monitor)
         (range_all (λ block. test block ≡ true → P (claims.One (1 + k) block)) 0 (length monitor.blocks) (λ block first last passes asked.
         let waits = waits_of_test (slice_get monitor.blocks block) (1 + k) passes in
-        ((signal_reads_none monitor plan k rule of.kinds sight is, waits), one_told monitor plan (1 + k) block lawful kind asked (slice_get monitor.blocks block) refl waits))))
+        ((signal_reads_none monitor plan k rule of.kinds sight is, waits), one_told monitor plan (1 + k) block lawful (omega arith) kind asked (slice_get monitor.blocks block) refl waits))))
     by_kind kinds.Broadcast k is = All-nil (IsToldIf (is_asked plan) monitor plan)
 
 -- a test that no claim of an untested note passes

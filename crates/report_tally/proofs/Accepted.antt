@@ -11,7 +11,6 @@ use Rattle.lang_monitor.specs.declared.claim.Claim.{Claim}
 use Rattle.lang_monitor.specs.declared.claim.Claim.TheVariants as claims
 use Rattle.lang_monitor.specs.declared.monitor.Block.{Block}
 use Rattle.lang_monitor.specs.declared.monitor.Condition.{Condition}
-use Rattle.lang_monitor.specs.Conditions.{HasCondition}
 use Rattle.lang_monitor.specs.Inputs.{reads_inputs}
 use Rattle.lang_monitor.specs.MonitorParts.{MonitorParts, IsMonitor}
 use Rattle.lang_monitor.specs.Queries.{query_of}
@@ -210,12 +209,12 @@ lawful_plainly laws monitor report rule is checked by_guards none = record {
   noted = by_guards.noted;
   reading = by_guards.reading;
   broadcasts = by_guards.broadcasts;
-  signals = λ number block there kind.
+  signals = λ number block there numbered kind.
       let low = slice_get_within monitor.blocks number block there in
       let waits = subst (λ (o : Option Block). IsSomeAnd o (λ held. held.condition ≡ block.condition)) (sym there) refl in
       inl (held laws monitor report.plan.kept (claims.One block.condition number) rule low
       (of_signal (IsOwedSo monitor report) monitor report.plan number block.condition (claims_so monitor report is checked) kind
-      (all_at (HasCondition monitor.conditions) monitor.blocks number block there rule.conditions).0 waits low (ap not (none_counted report.counted none block.condition))));
+      numbered waits low (ap not (none_counted report.counted none block.condition))));
 }
 
 pub counted_accepted : Laws → AnswersCount → GuardsCount → (monitor : MonitorParts) (report : CountedReport) → IsMonitor monitor

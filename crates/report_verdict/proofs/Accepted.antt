@@ -8,7 +8,6 @@ use Rattle.lang_monitor.specs.declared.candidate.Candidate.{Candidate}
 use Rattle.lang_monitor.specs.declared.claim.Claim.{Claim}
 use Rattle.lang_monitor.specs.declared.claim.Claim.TheVariants as claims
 use Rattle.lang_monitor.specs.declared.monitor.Block.{Block}
-use Rattle.lang_monitor.specs.Conditions.{HasCondition}
 use Rattle.lang_monitor.specs.MonitorParts.{MonitorParts, IsMonitor}
 use Rattle.lang_monitor.specs.Queries.{query_of}
 use Rattle.lang_monitor.specs.Triples.{Keeps}
@@ -69,11 +68,11 @@ accepted laws monitor report rule is sight checked =
             (unnoted_backed monitor plan block condition notes.0 backed notes.1 first last (ap (λ (own : List Note). has_note own condition) (sym same) ∙ none));
         reading = sight.reading;
         broadcasts = sight.broadcasts;
-        signals = λ number block there kind.
+        signals = λ number block there numbered kind.
             let low = slice_get_within monitor.blocks number block there in
             let waits = subst (λ (o : Option Block). IsSomeAnd o (λ held. held.condition ≡ block.condition)) (sym there) refl in
             inl (held laws monitor plan.kept (claims.One block.condition number) rule low
-            (signals_backed monitor plan number block.condition backed kind (all_at (HasCondition monitor.conditions) monitor.blocks number block there rule.conditions).0 waits low));
+            (signals_backed monitor plan number block.condition backed kind numbered waits low));
       };
     }
 

@@ -31,11 +31,12 @@ use Rattle.lang_cursor.specs.Arguments.{negative}
 use Rattle.lang_cursor.specs.Reading.{Read, ◌⊗◌, made_at, choice_at, pure_at, each_at, whole}
 use Rattle.lang_cursor.specs.Reading.{placed_at, mark_at, ident_at, numeral_at, listed_at, braces_at}
 use Rattle.lang_cursor.specs.Reading.{truth_of, op_of, minus_of, kind_of, begins, begins_listed}
-use Rattle.lang_cursor.specs.Reading.{begins_ident, atom_at, plain_argument_at}
+use Rattle.lang_cursor.specs.Reading.{begins_ident, begins_spelled, spelled_at, atom_at}
+use Rattle.lang_cursor.specs.Reading.{plain_argument_at}
 use Rattle.lang_syntax.specs.declared.expression_parser.Join.{Join}
 use Rattle.lang_syntax.specs.declared.expression_parser.Join.TheVariants as joins
 use Rattle.lang_syntax.specs.declared.item_parser.CallHead.{CallHead}
-use Rattle.lang_syntax.specs.Grammar.{chain, comparison, both, either}
+use Rattle.lang_syntax.specs.Grammar.{chain, comparison, both, either, ASSERTS}
 
 -- ---- what comes next
 
@@ -316,12 +317,36 @@ blocks_of (first, rest) = first ∷ rest
 unfoldable pub blocks_at : List Word → Read (List BlockTree)
 blocks_at = made_at blocks_of (guarded_at ⊗ later_blocks_at)
 
-abbrev pub method_of : (PlacedName × List InputTree) × (List Decl × List BlockTree) → MethodTree
-method_of (head, (locals, blocks)) =
-    record { at = head.0.at; name = head.0.name; inputs = head.1; locals = locals; blocks = blocks }
+unfoldable pub asserted_at : List Word → Read BlockTree
+asserted_at =
+    made_at guarded_of (spelled_at ASSERTS ⊗ condition_at LEVELS ⊗ block_at (statement_at LEVELS))
+
+-- blocks, with whether they assert
+abbrev pub waiting_of : List BlockTree → Bool × List BlockTree
+waiting_of blocks = (false, blocks)
+
+abbrev pub asserting_of : BlockTree → Bool × List BlockTree
+asserting_of block = (true, block ∷ [])
+
+-- guarded guarded* | asserted
+unfoldable pub method_blocks_at : List Word → Read (Bool × List BlockTree)
+method_blocks_at =
+    choice_at (begins_spelled ASSERTS) (made_at asserting_of asserted_at)
+    (made_at waiting_of blocks_at)
+
+abbrev pub method_of : (PlacedName × List InputTree) × (List Decl × (Bool × List BlockTree))
+    → MethodTree
+method_of (head, (locals, (asserts, blocks))) = record {
+  at = head.0.at;
+  name = head.0.name;
+  inputs = head.1;
+  locals = locals;
+  asserts = asserts;
+  blocks = blocks;
+}
 
 unfoldable pub method_at : List Word → Read MethodTree
-method_at = made_at method_of (head_at ⊗ locals_at ⊗ blocks_at)
+method_at = made_at method_of (head_at ⊗ locals_at ⊗ method_blocks_at)
 
 unfoldable pub methods_at : List Word → Read (List MethodTree)
 methods_at = each_at (begins kinds.KeyMethod) method_at

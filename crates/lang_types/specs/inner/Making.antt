@@ -1,6 +1,6 @@
 -- What the parts of the making of a monitor say.
-use Rattle.std.specs.Prelude.{◌≡◌, ℕ, ◌+◌, ◌-◌, ◌≤◌, ◌⊎◌, true, false, List, [], ◌∷◌, ◌++◌}
-use Rattle.std.specs.Prelude.{length, All, Some, slice_get, IsSomeAnd}
+use Rattle.std.specs.Prelude.{◌≡◌, ℕ, ◌+◌, ◌-◌, ◌≤◌, ◌⊎◌, Bool, true, false, List, []}
+use Rattle.std.specs.Prelude.{◌∷◌, ◌++◌, length, All, Some, slice_get, IsSomeAnd}
 use Rattle.lang_tree.specs.declared.tree.Expr.{Expr}
 use Rattle.lang_tree.specs.declared.tree.StmtTree.{StmtTree}
 use Rattle.lang_tree.specs.declared.tree.BlockTree.{BlockTree}
@@ -44,9 +44,17 @@ HasGuard guard condition = condition.guard ≡ guard
 abbrev pub LacksGuard : Formula → Condition → Type 0
 LacksGuard guard condition = condition.guard ≡ guard → ⊥
 
--- the block's condition has the number of its guard
-abbrev pub HasNumber : BlockTree → Block → List Condition → List Condition → Type 0
-HasNumber tree block before all = IsNumbered before block.guard tree.guard block.condition all
+-- The same number where the guard is waited for; where it is asserted there is no condition, and
+-- the number is 0.
+abbrev pub IsWaitNumber : Bool → List Condition → Formula → Expr → ℕ → List Condition → Type 0
+IsWaitNumber asserts before guard shown number all =
+    ((asserts ≡ true) × (number ≡ 0) × (all ≡ before))
+    ⊎ ((asserts ≡ false) × IsNumbered before guard shown number all)
+
+-- the block's condition has the number of its guard, where there is one
+abbrev pub HasNumber : Bool → BlockTree → Block → List Condition → List Condition → Type 0
+HasNumber asserts tree block before all =
+    IsWaitNumber asserts before block.guard tree.guard block.condition all
 
 -- all conditions are those of the blocks, which have their numbers
 abbrev pub AreNumbered : List MethodTree → List Block → List Condition → Type 0
@@ -66,8 +74,10 @@ abbrev pub AreOfMethod : List Decl → ℕ → MethodTree → List Block → Lis
 AreOfMethod declared number method old new before all =
     AreAdded declared (placed_in number method method.blocks) old new before all
 
-abbrev pub HasBlock : MethodTree → Type 0
-HasBlock method = 1 ≤ length method.blocks
+-- a method has a block, and just one where it asserts
+pub record HasBlocks (method : MethodTree) : Type 0 where
+  pub some : 1 ≤ length method.blocks
+  pub alone : method.asserts ≡ true → length method.blocks ≡ 1
 
 -- a method has at most four blocks, and the numbers of its locals are not too large
 pub record HasSmallParts (method : MethodTree) : Type 0 where

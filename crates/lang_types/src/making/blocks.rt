@@ -8,7 +8,7 @@ ghost use Rattle.lang_types.specs.inner.Making.{AreNumbered, AreOfMethod, HasNum
 ghost use Rattle.lang_types.specs.inner.Making.{IsBlockScope, IsMethodScope};
 ghost use Rattle.lang_types.specs.Typed.{AreBlocksOf, IsBlockOf, blocks_from};
 
-use super::conditions::number_of;
+use super::conditions::wait_number;
 use super::statements::{result_of, statements_of};
 use base_list::Seq;
 use lang_forms::{Entry, formula_of, scope_of};
@@ -58,30 +58,32 @@ fn push_blocks(
     let entries = scope.items();
     let blocks = tree.blocks.items();
     for block in blocks {
-        let made = block_of(alloc, entries, number, block, known)?;
+        let made = block_of(alloc, entries, number, tree.asserts, block, known)?;
         to.push(made)?;
     }
     Ok(())
 }
 
-/// The block of a tree.
+/// The block of a tree, by whether its method asserts.
 fn block_of(
     alloc: Global,
     scope: &[Entry],
     number: u32,
+    asserts: bool,
     tree: &BlockTree,
     known: &mut Vec<Condition>,
 ) -> Result<Block, AllocError>
     requires few { length known.old.items ≤ CONDITIONS }
     requires fine { IsBlockScope tree.now scope.now }
     ensures block { IfOk result (λ block. IsBlockOf scope.now number tree.now block) }
-    ensures condition { IfOk result (λ it. HasNumber tree.now it known.old.items known.new.items) }
+    ensures condition { IfOk result (λ it. HasNumber asserts tree.now it known.old.items
+        known.new.items) }
 {
     let statements = tree.body.items();
     let guard = formula_of(alloc, scope, &tree.guard)?;
     let body = statements_of(alloc, scope, statements)?;
     let result = result_of(alloc, scope, statements)?;
-    let condition = number_of(alloc, known, &guard, &tree.guard)?;
+    let condition = wait_number(alloc, asserts, known, &guard, &tree.guard)?;
     Ok(Block {
         method: number,
         guard,

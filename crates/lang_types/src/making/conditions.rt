@@ -4,7 +4,7 @@ ghost use Rattle.std.specs.Prelude.{◌≡◌, ◌≤◌, All, IfNone, IfOk, IfS
 ghost use Rattle.std.specs.Prelude.{nat_le, slice_get};
 ghost use Rattle.std.specs.List.{list_any};
 ghost use Rattle.lang_base.specs.Limits.{CONDITIONS, FIRST_INPUT};
-ghost use Rattle.lang_types.specs.inner.Making.{HasGuard, IsNumbered, LacksGuard};
+ghost use Rattle.lang_types.specs.inner.Making.{HasGuard, IsNumbered, IsWaitNumber, LacksGuard};
 ghost use Rattle.lang_monitor.specs.Inputs.{reads_inputs, reads_term};
 
 use base_list::Seq;
@@ -15,8 +15,26 @@ use lang_tree::Expr;
 use logic_linear::{Formula, Lin, Term, copy_formula, same_formula};
 use std::alloc::{AllocError, Global};
 
+/// The number of the condition that calls wait on for this guard: 0 where it is asserted.
+pub(crate) fn wait_number(
+    alloc: Global,
+    asserts: bool,
+    known: &mut Vec<Condition>,
+    guard: &Formula,
+    shown: &Expr,
+) -> Result<u32, AllocError>
+    requires { length known.old.items ≤ CONDITIONS }
+    ensures { IfOk result (λ n. IsWaitNumber asserts known.old.items guard.now shown.now n
+        known.new.items) }
+{
+    if asserts {
+        return Ok(0);
+    }
+    number_of(alloc, known, guard, shown)
+}
+
 /// The number of the condition with this guard. Where there is none it is added.
-pub(crate) fn number_of(
+fn number_of(
     alloc: Global,
     known: &mut Vec<Condition>,
     guard: &Formula,

@@ -37,6 +37,7 @@ fn method_of(alloc: Global, tree: &MethodTree, first: u32) -> Result<Method, All
         name: tree.name.clone()?,
         inputs: Seq::of(kinds_of(alloc, tree.inputs.items())?),
         locals: Seq::of(starts_of(alloc, tree.locals.items())?),
+        asserts: tree.asserts,
         first,
         count: tree.blocks.items().len() as u32,
     })

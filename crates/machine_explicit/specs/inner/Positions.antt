@@ -72,9 +72,14 @@ HasRoom monitor clients capacity = capacity ≡ all_blocks monitor clients
 
 -- ---- a step
 
+-- after an overflow it makes a signal on the condition of its block, where that has one
+abbrev pub after_overflow : ℕ → Doing
+after_overflow condition =
+    if condition == 0 then doings.Unlocking else doings.Signalling condition
+
 -- what a client does after the reply of its block
 abbrev pub doing_after : MonitorParts → ℕ → Reply → Doing
-doing_after monitor block replies.Overflow = doings.Signalling (block_condition monitor block)
+doing_after monitor block replies.Overflow = after_overflow (block_condition monitor block)
 doing_after monitor block replies.Refused = doings.Unlocking
 doing_after monitor block reply = doings.Notifying block 0
 

@@ -10,4 +10,4 @@ returns-then-not-tests_guard g c =
 
 pub returns : goal.returns
 returns g c =
-    wrote_same _ (some_test (seen c.args.source.now) c.args.method.now c.args.place c.args.block c.args.parts.now _ _ _ c.condition_of-condition.ensures c.tests_guard.ensures c.reads_inputs-reads.ensures c.if-not-tests_guard.false) c.write_own_guard.ensures
+    wrote_same _ (some_test (seen c.args.source.now) c.args.method.now c.args.place c.args.block c.args.parts.now _ _ _ c.condition_of-condition.ensures c.tests_guard.ensures c.tests_alone-alone.ensures c.if-not-tests_guard.false) c.write_own_guard.ensures

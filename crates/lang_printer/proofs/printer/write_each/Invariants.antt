@@ -7,4 +7,4 @@ use Rattle.lang_printer.proofs.printer.write_each.Given as goal
 
 abbrev pub invariant-loop-block : goal.invariant-loop-block
 invariant-loop-block g l =
-    Wrote (g.S.Sink.seen l.initial.out) (g.S.Sink.seen l.out) (Ok tt) (flat_map (λ block. codes "    " ++ guarded_text (levels l.depth) block) (take l.block-index l.blocks))
+    Wrote (g.S.Sink.seen l.initial.out) (g.S.Sink.seen l.out) (Ok tt) (flat_map (λ block. codes "    " ++ guarded_text l.opening (levels l.depth) block) (take l.block-index l.blocks))
