@@ -25,7 +25,7 @@ sys.dont_write_bytecode = True
 ROOT = pathlib.Path(__file__).resolve().parent.parent
 sys.path.insert(0, str(ROOT / "tools"))
 
-from emitted import Source, has_times, has_try, has_with, module_text  # noqa: E402
+from emitted import Source, has_assertion, has_times, has_try, has_with, module_text  # noqa: E402
 from fits import whole_blocks  # noqa: E402
 from rust_bodies import way_name  # noqa: E402
 from trees import If, Return, read_tree  # noqa: E402
@@ -34,7 +34,7 @@ WORDS = ("self Self _ __ Ok Err Some None state State next answer match match_ t
          "wait drop narrow inner Inner copy asleep_x Overflow Mutex Option Refused Failed From i64 i128 std async dyn a__b can_x run_x x_ "
          "_x await clone Result try_x try_new_ box gen readX read_x f hand result data Data D R HandOn FnOnce Drop "
          "with_data get_mut into_inner is_poisoned x_with try_x_with readX_with try_start_read_with Default "
-         "end time left wait_for time_left Duration Instant x_for try_x_until x_until_with readX_for start_read_until").split()
+         "end time left wait_for time_left asserts Duration Instant x_for try_x_until x_until_with readX_for start_read_until").split()
 LEAST, MOST = -2 ** 63, 2 ** 63 - 1
 CALLS, BATCH, LONG = 40, 20, 0.01
 SIGNS = "==", "!=", "<", "<=", ">", ">="
@@ -121,6 +121,8 @@ class Maker:
         flags = [one for one in self.flags if one not in [name for _, name in inputs]]
         blocks = [self.block("    ", readable, flags, k == count - 1) for k in range(count)]
         self.ints, self.flags, self.names = outer
+        if count == 1 and self.dice.random() < 0.3:
+            blocks = [blocks[0].replace("waituntil", "asserts", 1)]
         if count == 1 and not lines:
             block = blocks[0].replace("\n  ", "\n").lstrip()
             return f"  method {name}({taken}) {block}"
@@ -248,7 +250,8 @@ class Caller:
     def call(self):
         """Any method with any arguments, in any way in which it wouldn't wait for long."""
         method, first = self.dice.choice(self.methods)
-        ways = ["tries"] if has_try(self.source, method, first) else ["waits"]
+        own = "asserts" if has_assertion(self.source, method, first) else "waits"
+        ways = ["tries"] if has_try(self.source, method, first) else [own]
         ways += ["until", "for"] * has_times(self.source, method, first)
         way, tries = self.dice.choice(ways), ways != ["waits"]
         arguments = [self.dice.random() < 0.5 if one.kind == "bool" else self.dice.choice([0, 1, -1, 5, MOST, LEAST])

@@ -39,10 +39,14 @@ class Reader:
     """Reads a file from left to right, and stops at the first token that no file has there."""
 
     def __init__(self, text):
-        self.tokens, self.next = tokens(text), 0
+        self.text, self.tokens, self.next = text, tokens(text), 0
 
     def sees(self, *kinds):
         return self.tokens[self.next][0] in kinds
+
+    def sees_name(self, name):
+        kind, at = self.tokens[self.next]
+        return kind == b"ident" and re.match(rb"\w+", self.text[at:])[0] == name
 
     def stop(self):
         raise Fault(self.tokens[self.next][1], b"syntax")
@@ -98,9 +102,12 @@ class Reader:
         self.take(b")")
         while self.sees(b"local"):
             self.local()
-        self.block()
+        if self.sees_name(b"asserts"):
+            self.block(b"ident")
+            return
+        self.block(b"waituntil")
         while self.sees(b"waituntil"):
-            self.block()
+            self.block(b"waituntil")
 
     def local(self):
         self.take(b"local")
@@ -109,8 +116,8 @@ class Reader:
         self.take(b"true", b"false") if kind == b"bool" else self.written()
         self.take(b";")
 
-    def block(self):
-        self.each(b"waituntil", b"(")
+    def block(self, opening):
+        self.each(opening, b"(")
         self.expression(0)
         self.take(b")")
         self.body(0)

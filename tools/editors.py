@@ -33,6 +33,10 @@ MOST_BYTES = 4096
 PATIENCE = 60
 FOLDERS = ("crates", "bench", "examples")
 
+# `asserts` is no keyword, but a word ahead of a guard, which is no call; and the words behind which it is a name.
+ASSERTS = re.compile(r"asserts(?=[ \t\r]*\()(?![ \t\r]*\([^;{}\n]*\)[ \t\r]*;)")
+NAMING = {"monitor", "client", "method", "const", "int", "bool"}
+
 # What stands in a text, by the beginnings of TextMate's scopes, and by the groups to which Vim's are linked.
 SCOPES = {
     "comment": ("comment.",),
@@ -80,9 +84,14 @@ EXAMPLES = (
   method
     get'method
     ( ) waituntil (true) { }
+  method give'method(int n'input) asserts (n'used <= held'used) { held'assigned = held'used - n'used; }
+  method asserts'method()
+    local int before'local = 0;
+    asserts (before'used < (held'used)) {
+    }
 }
 """,
-    """client A'client { put'call(3, true); try get'call (); repeat 2 { get'call(); } }
+    """client A'client { put'call(3, true); try get'call (); repeat 2 { get'call(); } asserts'call(); try asserts'call (1); }
 client B'client{}
 """,
 )
@@ -148,8 +157,13 @@ def pieces():
 
 def tokens(text):
     """The tokens and comments of a text, up to a fault, which is the last."""
+    word = ""
     for piece in pieces().finditer(text):
         kind = kind_of(piece)
+        if word not in NAMING and ASSERTS.match(text, piece.start()):
+            kind = "keyword"
+        if kind not in ("blank", "comment"):
+            word = piece[0]
         if kind != "blank":
             yield Token(kind, piece.start(), piece.end())
         if kind == "fault":
@@ -224,7 +238,7 @@ def role_faults(editor, text, roles, found):
 
 def keyword_faults(editor, spelled):
     """The keywords that an editor's file lacks, and the words that are none."""
-    for word in sorted(keywords() ^ spelled):
+    for word in sorted(keywords() ^ spelled - {"asserts"}):
         yield f"{editor}: {'lacks the keyword' if word in keywords() else 'no keyword:'} {word}"
 
 

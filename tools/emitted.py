@@ -53,7 +53,10 @@ class Source:
                       for notes in notes_of(plan)]
 
     def is_waited_on(self, condition):
-        return self.monitor.conditions[condition - 1].guard != ALWAYS
+        return condition > 0 and self.monitor.conditions[condition - 1].guard != ALWAYS
+
+    def is_guarded(self, block):
+        return self.monitor.blocks[block].guard != ALWAYS
 
     def waited_on(self):
         return [q for q in range(1, len(self.monitor.conditions) + 1) if self.is_waited_on(q)]
@@ -61,8 +64,9 @@ class Source:
     def condition_of(self, block):
         return self.monitor.blocks[block].condition
 
-    def reads_inputs(self, condition):
-        return self.monitor.conditions[condition - 1].reads_inputs
+    def tests_alone(self, condition):
+        """Each of its blocks has a test of its own, as those do that have no condition."""
+        return condition == 0 or self.monitor.conditions[condition - 1].reads_inputs
 
     def first_block(self, condition):
         return [one.condition for one in self.monitor.blocks].index(condition)
@@ -95,7 +99,7 @@ class Source:
 # ---- methods
 def test_text(source, block):
     condition, (method, number, _) = source.condition_of(block), source.blocks[block]
-    if not source.reads_inputs(condition):
+    if not source.tests_alone(condition):
         return f"{source.condition_name(condition)}()"
     arguments = ", ".join(argument_texts(source.names, method, ""))
     return f"{can_name(source.names, method, number)}({arguments})"
@@ -132,9 +136,9 @@ def run_lines(source, block, way):
 def test_lines(source, block, way, refusal):
     """The block's guard is waited for, or the call is refused, at once or when its time is over."""
     condition = source.condition_of(block)
-    if not source.is_waited_on(condition):
+    if not source.is_guarded(block):
         return []
-    if way == "tries":
+    if way in ("tries", "asserts"):
         return [f"if !inner.state.{test_text(source, block)} {{", f"    return Err({refusal});", "}"]
     count, name = f"    inner.{source.count_name(condition)}", source.condition_name(condition)
     over, waits = [], f"wait(&self.{name}, inner)"
@@ -190,8 +194,8 @@ def for_lines(source, method, works, fails, answer):
 def method_text(source, method, first, way, works):
     """A method.
 
-    Of one that tries, a call is refused where it would wait at the first block; until a time, or for one, it waits
-    before that. Of one that works, a call is given a function, which the last block calls with the data.
+    Of one that asserts or tries, a call is refused where the guard of the first block is false; until a time, or for
+    one, it waits before that. Of one that works, a call is given a function, which the last block calls with the data.
     """
     blocks = range(first, first + len(method.blocks))
     fails, answer = any(source.fails(block) for block in blocks), source.answer(blocks[-1])
@@ -221,12 +225,17 @@ def has_try(source, method, first):
     return waits and source.names.is_free(source.names.tried(method.name))
 
 
+def has_assertion(source, method, first):
+    """The method asserts a guard that is not `true`."""
+    return method.asserts and source.is_guarded(first)
+
+
 def has_with(source, method, way):
     """No other name is theirs."""
     if way in ("until", "for"):
         return source.names.are_lasting_with_free(method.name)
     free = source.names.is_with_free(method.name)
-    return free and (way == "waits" or source.names.is_free("try_" + source.names.working(method.name)))
+    return free and (way != "tries" or source.names.is_free("try_" + source.names.working(method.name)))
 
 
 def has_times(source, method, first):
@@ -236,7 +245,7 @@ def has_times(source, method, first):
 
 def methods_text(source, method, first):
     """With the calls that try, that have a time, and that are given a function, where it has them."""
-    ways = ["waits"] + ["tries"] * has_try(source, method, first)
+    ways = ["asserts" if has_assertion(source, method, first) else "waits"] + ["tries"] * has_try(source, method, first)
     ways += ["until", "for"] * has_times(source, method, first)
     return "".join(method_text(source, method, first, way, works) for way in ways
                    for works in [False] + [True] * has_with(source, method, way))
@@ -271,7 +280,8 @@ def module_text(source):
 def refusals(source):
     """Of each method whose calls may be refused, whether it may fail too."""
     return [any(map(source.fails, range(first, first + len(method.blocks))))
-            for method, first in methods_of(source) if has_try(source, method, first)]
+            for method, first in methods_of(source)
+            if has_assertion(source, method, first) or has_try(source, method, first)]
 
 
 def methods_of(source):
@@ -333,10 +343,10 @@ def functions(source):
     texts = []
     for number, (method, place, block) in enumerate(source.blocks):
         condition = source.condition_of(number)
-        reads = source.reads_inputs(condition)
-        is_tested = source.is_waited_on(condition) and (
-            reads or source.first_block(condition) == number)
-        texts += function_texts(source.names, method, place, block, is_tested, reads,
+        alone = source.tests_alone(condition)
+        is_tested = source.is_guarded(number) and (
+            alone or source.first_block(condition) == number)
+        texts += function_texts(source.names, method, place, block, is_tested, alone,
                                 arrow_text(source.answer(number), "Overflow" if source.fails(number) else None),
                                 source.whole[number])
     return "".join(f"\n{text}" for text in texts)

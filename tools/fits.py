@@ -86,7 +86,7 @@ def scope_of(text, monitor):
 def answers(text, monitor):
     """Of each block the end of its paths: its answer is a number outside 64 bits."""
     scope, blocks = scope_of(text, monitor), monitor.blocks
-    bodies = re.findall(r"^( +)(?:method .*)?waituntil \(.*\) {\n((?:\1 .*\n)*)\1}$", text, re.M)
+    bodies = re.findall(r"^( +)(?:method .*)?(?:waituntil|asserts) \(.*\) {\n((?:\1 .*\n)*)\1}$", text, re.M)
     for block, (_, body) in zip(blocks, bodies, strict=True):
         value = [read(shown, scope | block.own) for shown in re.findall(r"return (.*);", body)]
         yield outside(value[0]) if value and not isinstance(value[0], Formula) else joined("any", [])

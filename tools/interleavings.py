@@ -1,9 +1,10 @@
 """All that three clients may do under a plan of a monitor, by its definitions and with no code of the product.
 
 A client calls any method at any time, whoever waits may wake by nothing, and the notes of a block come after it, in any
-order, while others go on. (A call that tries is one that doesn't wait, or nothing.) Numbers are small, and a block that
-would leave them overflows. A wake-up is lost where a client waits whose guard is true, nobody was woken on its
-condition, and no note on it is to come.
+order, while others go on. (A call that tries is one that doesn't wait, or nothing.) A block that asserts has
+condition 0: where its guard is false nothing is done. Numbers are small, and a block that would leave them overflows.
+A wake-up is lost where a client waits whose guard is true, nobody was woken on its condition, and no note on it is to
+come.
 """
 
 import collections
@@ -189,10 +190,11 @@ class Trial:
     def enters(self, state, client):
         """The state and the client when it gives the mutex back."""
         step, (_, number, at, _, _) = self.step(state, client), client
+        awaited = self.condition(client)
         if step is None:
-            return state, ("waits", *client[1:])
+            return state, ("waits", *client[1:]) if awaited else IDLE
         if not step:
-            return state, told(IDLE, ((self.condition(client), "signal"),))
+            return state, told(IDLE, ((awaited, "signal"),) if awaited else ())
         notes = tuple((condition, kind) for condition, (kind, test) in self.notes[self.block(client)].items()
                       if not test or self.machine.opens[condition - 1](step[0]))
         is_last = at + 1 == len(self.machine.calls[number][0])

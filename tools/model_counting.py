@@ -42,7 +42,7 @@ def plans_of_rows():
 
 
 def random_monitor(chance):
-    """Blocks that take from a field behind a guard of one to four parts, and others that give to it."""
+    """Blocks that take from a field behind a guard of one to four parts, and others that give to it; some assert."""
     back, sign, guard = chance.choice([("+", "-", "a > 0"), ("+", "-", "a >= 2"), ("-", "+", "a < 2")])
     for part in chance.sample(["p", "!p", "a != 1", "a < 2", "a > 0"], chance.choice([0, 1, 1, 2, 3])):
         guard = chance.choice(["({}) && {}", "{} || ({})"]).format(*chance.sample([guard, part], 2))
@@ -50,7 +50,9 @@ def random_monitor(chance):
     blocks = [(guard, f"a = a {sign} 1;")] * chance.choice([1, 2]) + [("true", changes[0])]
     blocks += [(chance.choice(["true", "p", "a < 2"]), f"a = a {back} {chance.choice([0, 1, 1, 2])};") for _ in "12"]
     shown = [["waituntil ({}) {{".format(guard), body, chance.choice(changes), "}"] for guard, body in blocks]
-    methods = [[f"method one{number}() {block[0]}", *block[1:]] for number, block in enumerate(shown[:-1])]
+    alone = [[block[0].replace("waituntil", chance.choice(["waituntil", "waituntil", "asserts"])), *block[1:]]
+             for block in shown[:-1]]
+    methods = [[f"method one{number}() {block[0]}", *block[1:]] for number, block in enumerate(alone)]
     methods.append(["method last()", *shown[-1], *chance.choice([[], [], chance.choice(shown)])])
     return "\n".join(["monitor Some {", "int a = 0;", "bool p = false;",
                       *(line for method in methods for line in method if line), "}"])

@@ -17,6 +17,7 @@ Checked of each state that is reached, where nobody holds the mutex:
   counts    the count of a condition is how many are in `wait` on it
   pending   where a thread sleeps whose guard is true, one is woken on its condition, or has a note on it to make
   guards    a body runs only where its guard is true
+  refusals  a call is refused only where the guard of its first block is false
   changes   a call that is refused, or overflows, or whose function panics, has changed nothing in its last block
   data      the data are as the fields: each function runs once, and while its thread has the mutex
   poison    where a function has panicked the mutex is still taken
@@ -188,6 +189,10 @@ class Module:
         self.heeds_poison = bool(re.search(taken, text))
         self.call = functools.lru_cache(None)(self.call)
 
+    def takes(self, name):
+        """The function is handed inputs."""
+        return self.functions[name].__code__.co_argcount > 2
+
     def calls(self):
         """Each method with each of its arguments."""
         for name, method in self.methods.items():
@@ -227,6 +232,25 @@ class Explorer:
 
     def truth(self, thread, step, fields):
         return self.m.call(step.what, step.more[0], fields, thread.known)[0]
+
+    def first_truth(self, thread, fields):
+        """Of the guard of the method's first block, by the name that it should have, or None where it has none."""
+        plain = thread.method.removesuffix("_with")
+        stems = [thread.method, plain, re.sub("(_until|_for)$", "", plain)]
+        stems += [one.removeprefix("try_") for one in stems]
+        name = next(f"can_{one}" for one in stems if f"run_{one}" in self.m.functions)
+        if name not in self.m.functions:
+            return None
+        handed = ", ".join(one for one, _ in thread.known) if self.m.takes(name) else ""
+        return self.m.call(name, handed, fields, thread.known)[0]
+
+    def is_open(self, thread, fields):
+        """The guard is true of the block that a thread is in, of the first one also where it is not tested."""
+        test, steps = self.guard(thread), self.m.methods[thread.method].steps[:thread.at]
+        if test.kind != "lock":
+            return self.truth(thread, test, fields)
+        is_first = [one.kind for one in steps].count("lock") == 1
+        return not is_first or self.first_truth(thread, fields) is not False
 
     def counted(self, counts, name, by):
         at = self.m.counts.index(name)
@@ -300,6 +324,8 @@ class Explorer:
         elif step.kind == "drop":
             yield self.released(held, self.on(after))
         elif step.kind in ("return", "answer"):
+            if step.what == "Refused" and self.first_truth(thread, fields):
+                raise Broken("refusals")
             yield self.ends(held, step.kind == "answer")
         else:
             yield from self.section(self.changed(held._replace(thread=after), step))
@@ -321,8 +347,7 @@ class Explorer:
 
     def body(self, held, step, after):
         """The body of a block, on the fields or on the copy of them."""
-        test = self.guard(after)
-        if test.kind != "lock" and not self.truth(after, test, held.fields):
+        if not self.is_open(after, held.fields):
             raise Broken("guards")
         works, (handed, *_) = step.kind == "work", step.more
         answer, fields, known = self.m.call(step.what, handed, held.next if works else held.fields, after.known)
@@ -424,7 +449,7 @@ CASES = {
     "buffer": [(3, 3), (2, 2, 1)], "lock": [(2, 2, 1)], "semaphore": [(2, 2, 1)], "twice": [(2, 2, 2)],
     "meeting": [(2, 2, 1)], "up": [(2, 1)], "barrier": [(2, 2, 1)], "readers_writers": [(3, 2), (2, 1, 1)],
     "account": [(2, 2)], "names": [(1, 1)], "derived_weights": [(2, 1, 1)], "job_gate": [(2, 2)],
-    "map_gate": [(2, 2)], "tally": [(2, 2), (1, 1, 1)],
+    "map_gate": [(2, 2)], "shelf": [(2, 1), (1, 1, 1)], "tally": [(2, 2), (1, 1, 1)],
 }
 # A fault, the module, the calls of each thread, what it breaks, what stands for the first such text of the module, and
 # of which methods the calls are.
@@ -434,6 +459,7 @@ LOOP = r"( +inner = wait\(.*\n)( +inner\.\w+ -= 1;\n)"
 NOTE = r"        if copy\.asleep_get > 0 \{\n    (.*\n)        \}\n"
 GIVEN = r"(.*f\(&mut inner.*\n)(.*forget.*\n)?(        inner\.state = next;\n)"
 TIMED = r"( +let Some\(left\).*\n.*\n.*\n)(.*asleep_get.*\n.*\n.*\n)"
+ASSERTED = r"(.*run_end_read\(\);\n.*\n.*\n)        if copy(?:.*\n){3}"
 AFTER = r"(.*f\(&mut inner.*\n)((?:.*\n)*?        drop\(inner\);\n)"
 FAULTS = [
     Fault("who waits is not counted", "buffer", (2, 1), "counts", r" +inner\.\w+ \+= 1;\n", ""),
@@ -455,6 +481,13 @@ FAULTS = [
           r"(        next\.total = .*\n)(        \*self = next;\n)", r"\2\1"),
     Fault("a refusal that changes something", "buffer", (2, 1), "changes",
           r"(        if !inner(?:.*\n){3})(        inner\.state\.run_put\(\);\n)", r"\2\1"),
+    Fault("an assertion that is refused and changes something", "shelf", (2, 1), "guards",
+          r"(        if !inner\.state\.can_end_read(?:.*\n){3})(.*inner\.state\.run_end_read\(\);\n)", r"\2\1"),
+    Fault("an assertion that is refused where it is true", "shelf", (2, 1), "refusals",
+          r"if !inner\.state\.can_end_read", "if !inner.state.can_start_write"),
+    Fault("an assertion that is not tested", "shelf", (2, 1), "guards", r"        if !inner\.state\.can_end_read(?:.*\n){3}",
+          ""),
+    Fault("no note after an assertion", "shelf", (2, 1), "pending", ASSERTED, r"\1"),
     Fault("no note where the function panics", "buffer", (1, 1, 1), "pending", r" +self\.0\.notify_one\(\);\n", ""),
     Fault("a note of another condition where it panics", "buffer", (1, 1, 1), "pending", r"HandOn\(&self\.can_get",
           "HandOn(&self.can_put"),
@@ -467,7 +500,7 @@ FAULTS = [
     Fault("no function", "buffer", (2, 1), "data", r".*f\(&mut inner.*\n", ""),
     Fault("a function that runs twice", "buffer", (2, 1), "data", r"(.*f\(&mut inner.*\n)", r"\1\1"),
     Fault("a lock that heeds poison", "buffer", (1, 1), "poison", r"(\.lock\(\)\.unwrap)_or_else\(.*\)", r"\1()"),
-    Fault("who gives up has not tested again", "buffer", (1, 1, 1), "pending", TIMED, r"\2\1"),
+    Fault("who gives up has not tested again", "buffer", (1, 1, 1), "refusals", TIMED, r"\2\1"),
     Fault("who gives up is counted still", "buffer", (1, 1), "counts", r"(\n +let Some\(left\).*\n.*\n.*)(\n.*\+= 1;)",
           r"\2\1"),
     Fault("an `if` for a `while` with a time", "buffer", (1, 1), "guards", r"while !(.*\n +let Some\(left\))",

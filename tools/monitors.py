@@ -14,7 +14,8 @@ OWN, WAITING = 16, 32  # first places: of a block's inputs, and of those of a cl
 
 # a field is its name, variable and start; a statement is (variable, value) or (if, then, else);
 # `waiting` is the guard at the inputs and locals of a client that waits, and `failing` its negation;
-# `own` and `others` are the inputs and locals of a block and of such a client, with their variables
+# `own` and `others` are the inputs and locals of a block and of such a client, with their variables;
+# the condition of a block that asserts is 0, and there is none of this number
 Monitor = namedtuple("Monitor", "name fields blocks conditions")
 Block = namedtuple("Block", "name guard body condition own")
 Condition = namedtuple("Condition", "guard waiting failing reads_inputs shown others")
@@ -103,7 +104,7 @@ def monitor_of(text):
 
 def read_method(monitor, line, lines, scope):
     """A method of one block without locals goes on in its line, and any other in the next ones."""
-    name, inputs, block = re.match(r"method (\w+)\((.*?)\)(?: (waituntil .*))?$", line).groups()
+    name, inputs, block = re.match(r"method (\w+)\((.*?)\)(?: ((?:waituntil|asserts) .*))?$", line).groups()
     if block:
         lines.append(block)
     inputs, own_locals, blocks = re.findall(r"(\w+) (\w+)", inputs), [], []
@@ -112,12 +113,13 @@ def read_method(monitor, line, lines, scope):
     own, others = (variables(inputs, first) | variables(own_locals, first + MOST_INPUTS)
                    for first in (OWN, WAITING))
     inside, outside = scope | own, scope | others
-    while lines[-1].startswith("waituntil "):
-        shown = re.match(r"waituntil \((.*)\) {", lines.pop())[1]
+    asserts = lines[-1].startswith("asserts ")
+    while lines[-1].startswith(("waituntil ", "asserts ")):
+        shown = re.match(r"\w+ \((.*)\) {", lines.pop())[1]
         blocks.append((shown, read(shown, inside), read(shown, outside),
                        read_body(lines, inside)[0]))
     for number, (shown, guard, waiting, body) in enumerate(blocks, 1):
-        condition = condition_of(monitor, shown, guard, waiting, others)
+        condition = 0 if asserts else condition_of(monitor, shown, guard, waiting, others)
         numbered = f"{name}.{number}" if len(blocks) > 1 else name
         monitor.blocks.append(Block(numbered, guard, body, condition, own))
 

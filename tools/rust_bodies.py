@@ -41,8 +41,8 @@ def run_name(names, method, number):
 
 
 def way_name(name, way, works):
-    """Of the calls of a method that wait, try, or wait until a time or for one, and may be given a function."""
-    names = {"waits": name, "tries": f"try_{name}", "until": f"{name}_until", "for": f"{name}_for"}
+    """Of the calls of a method that wait or assert, try, or wait until a time or for one, and may be given a function."""
+    names = {"waits": name, "asserts": name, "tries": f"try_{name}", "until": f"{name}_until", "for": f"{name}_for"}
     return names[way] + "_with" * works
 
 
@@ -319,7 +319,7 @@ def error_docs(method, fails, way):
     """When calls fail."""
     shown, lines = method.blocks[0].shown, []
     if way != "waits":
-        when = "" if way == "tries" else "its time is over and "
+        when = "its time is over and " if way in ("until", "for") else ""
         lines += ["", f"[`{'Failed::' if fails else ''}Refused`] where {when}`{shown}` is false. Then nothing changes."]
     if fails:
         of = "" if way == "waits" else "Failed::"
@@ -329,7 +329,9 @@ def error_docs(method, fails, way):
 
 def doc_text(source, method, first, fails, way, works, answer):
     lines = (working_docs(source, method, way, answer) if works
+             else ["Does not wait."] if way == "asserts"
              else waiting_docs(source, method, first) if way == "waits"
              else trying_docs(source, method, way)) + error_docs(method, fails, way)
-    comments = source.comments.of_method(method.name) if way == "waits" and not works else ""
+    is_own = way in ("waits", "asserts") and not works
+    comments = source.comments.of_method(method.name) if is_own else ""
     return comments + "".join(f"    /// {line}".rstrip() + "\n" for line in lines)

@@ -4,10 +4,11 @@ import re
 import sys
 from collections import namedtuple
 
-# of a declaration `kind` is const, int or bool; of a method `inputs` and `own_locals` are such
+# of a declaration `kind` is const, int or bool; of a method `inputs` and `own_locals` are such, and
+# `asserts` says whether its only guard is asserted
 Monitor = namedtuple("Monitor", "name declared methods")
 Declared = namedtuple("Declared", "kind name start")
-Method = namedtuple("Method", "name inputs own_locals blocks")
+Method = namedtuple("Method", "name inputs own_locals asserts blocks")
 Block = namedtuple("Block", "shown guard body")
 
 # `sign` is number, truth, name, minus, not, *, +, a comparison, && or ||. `parts` is the text of the
@@ -85,19 +86,20 @@ def declared(line):
 
 def read_method(line, lines):
     """A method of one block without locals goes on in its line, and any other in the next ones."""
-    name, inputs, block = re.match(r"method (\w+)\((.*?)\)(?: (waituntil .*))?$", line).groups()
+    name, inputs, block = re.match(r"method (\w+)\((.*?)\)(?: ((?:waituntil|asserts) .*))?$", line).groups()
     if block:
         lines.append(block)
     inputs = [Declared(kind, one, None) for kind, one in re.findall(r"(\w+) (\w+)", inputs)]
     own_locals, blocks = [], []
     while lines[-1].startswith("local "):
         own_locals.append(declared(lines.pop().removeprefix("local ")))
-    while lines[-1].startswith("waituntil "):
-        shown = re.match(r"waituntil \((.*)\) {", lines.pop())[1]
+    asserts = lines[-1].startswith("asserts ")
+    while lines[-1].startswith(("waituntil ", "asserts ")):
+        shown = re.match(r"\w+ \((.*)\) {", lines.pop())[1]
         blocks.append(Block(shown, read(shown), read_body(lines)[0]))
     if not block and lines[-1] == "}":
         lines.pop()
-    return Method(name, inputs, own_locals, blocks)
+    return Method(name, inputs, own_locals, asserts, blocks)
 
 
 def read_body(lines):
