@@ -4,7 +4,7 @@ if exists('b:did_indent')
 endif
 let b:did_indent = 1
 
-setlocal indentexpr=ExpressoIndent() indentkeys=0{,0},0),!^F,o,O,0=local,0=waituntil
+setlocal indentexpr=ExpressoIndent() indentkeys=0{,0},0),!^F,o,O,0=local,0=waituntil,0=asserts
 let b:undo_indent = 'setlocal indentexpr< indentkeys<'
 
 if exists('*ExpressoIndent')
@@ -22,7 +22,11 @@ function! s:opener() abort
   return indent('.')
 endfunction
 
-" One level deeper inside braces and parentheses; `local` and `waituntil` are one deeper than their method.
+" `asserts` ahead of a guard, and not in a call.
+let s:asserts = 'asserts\%(\s*(\)\@=\%(\s*([^;{}]*)\s*;\)\@!'
+
+" One level deeper inside braces and parentheses; `local`, `waituntil` and `asserts` are one deeper than their
+" method.
 function! ExpressoIndent() abort
   let line = getline(v:lnum)
   call cursor(v:lnum, 1)
@@ -37,5 +41,5 @@ function! ExpressoIndent() abort
   if line =~# '^\s*}'
     return outer
   endif
-  return outer + shiftwidth() * (line =~# '^\s*\%(local\|waituntil\)\w\@!' ? 2 : 1)
+  return outer + shiftwidth() * (line =~# '^\s*\%(\%(local\|waituntil\)\w\@!\|' . s:asserts . '\)' ? 2 : 1)
 endfunction

@@ -30,6 +30,8 @@ syntax match expressoDelimiter /[{}();,]/
 syntax match expressoComment +//.*+ contains=@Spell
 
 syntax match expressoStatement /\%(waituntil\|return\|try\)\w\@!/
+" `asserts` is a word ahead of a guard alone: before a parenthesis, and not in a call.
+syntax match expressoAsserts /asserts\%(\s*(\)\@=\%(\s*([^;{}]*)\s*;\)\@!/
 syntax match expressoConditional /\%(if\|else\)\w\@!/
 syntax match expressoRepeat /repeat\w\@!/
 syntax match expressoBoolean /\%(true\|false\)\w\@!/
@@ -59,6 +61,7 @@ highlight default link expressoType Type
 highlight default link expressoLocalType Type
 highlight default link expressoInputType Type
 highlight default link expressoStatement Statement
+highlight default link expressoAsserts Statement
 highlight default link expressoConditional Conditional
 highlight default link expressoRepeat Repeat
 highlight default link expressoBoolean Boolean
