@@ -5,8 +5,8 @@ use std::sync::{Condvar, Mutex, MutexGuard, PoisonError};
 use std::time::{Duration, Instant};
 
 /// Who may touch a map, and when: readers together, or one writer alone. A writer first queues, and
-/// while one is queued no reader starts. Whoever ends has started: so no end waits, and each \`if\`
-/// is there for the compiler alone, which now knows that no number falls below its least.
+/// while one is queued no reader starts. Whoever ends has started, and the ends assert it: so they
+/// never wait, and may be called where a guard of the map is dropped.
 ///
 /// The monitor `MapGate`. Threads share it by reference. A call waits for its guard, unless it tries.
 ///
@@ -17,6 +17,7 @@ use std::time::{Duration, Instant};
 ```text
 plan MapGate
 keep state >= -1
+keep state >= -2
 keep queued >= 0
 keep queued >= -1
 condition 1 broadcast: state >= 0 && queued == 0
@@ -260,21 +261,36 @@ impl<D> MapGate<D> {
     }
 
     /// Does not wait.
-    pub fn end_read(&self) {
+    ///
+    /// # Errors
+    ///
+    /// [`Refused`] where `state > 0` is false. Then nothing changes.
+    pub fn end_read(&self) -> Result<(), Refused> {
         let mut inner = lock(&self.inner);
+        if !inner.state.can_end_read() {
+            return Err(Refused);
+        }
         inner.state.run_end_read();
         let copy = inner.copy();
         drop(inner);
         if copy.asleep2_start_write > 0 && copy.state.can2_start_write() {
             self.can2_start_write.notify_one();
         }
+        Ok(())
     }
 
     /// As [`end_read`](Self::end_read), and calls `f` with the data under the same lock.
     ///
     /// Where `f` panics no field changes. `f` must not call this monitor.
-    pub fn end_read_with<R>(&self, f: impl FnOnce(&mut D) -> R) -> R {
+    ///
+    /// # Errors
+    ///
+    /// [`Refused`] where `state > 0` is false. Then nothing changes.
+    pub fn end_read_with<R>(&self, f: impl FnOnce(&mut D) -> R) -> Result<R, Refused> {
         let mut inner = lock(&self.inner);
+        if !inner.state.can_end_read() {
+            return Err(Refused);
+        }
         let mut next = inner.state;
         next.run_end_read();
         let result = f(&mut inner.data);
@@ -284,7 +300,7 @@ impl<D> MapGate<D> {
         if copy.asleep2_start_write > 0 && copy.state.can2_start_write() {
             self.can2_start_write.notify_one();
         }
-        result
+        Ok(result)
     }
 
     /// Does not wait.
@@ -337,8 +353,15 @@ impl<D> MapGate<D> {
     }
 
     /// Does not wait.
-    pub fn end_write(&self) {
+    ///
+    /// # Errors
+    ///
+    /// [`Refused`] where `state == -1` is false. Then nothing changes.
+    pub fn end_write(&self) -> Result<(), Refused> {
         let mut inner = lock(&self.inner);
+        if !inner.state.can_end_write() {
+            return Err(Refused);
+        }
         inner.state.run_end_write();
         let copy = inner.copy();
         drop(inner);
@@ -348,13 +371,21 @@ impl<D> MapGate<D> {
         if copy.asleep2_start_write > 0 {
             self.can2_start_write.notify_one();
         }
+        Ok(())
     }
 
     /// As [`end_write`](Self::end_write), and calls `f` with the data under the same lock.
     ///
     /// Where `f` panics no field changes. `f` must not call this monitor.
-    pub fn end_write_with<R>(&self, f: impl FnOnce(&mut D) -> R) -> R {
+    ///
+    /// # Errors
+    ///
+    /// [`Refused`] where `state == -1` is false. Then nothing changes.
+    pub fn end_write_with<R>(&self, f: impl FnOnce(&mut D) -> R) -> Result<R, Refused> {
         let mut inner = lock(&self.inner);
+        if !inner.state.can_end_write() {
+            return Err(Refused);
+        }
         let mut next = inner.state;
         next.run_end_write();
         let result = f(&mut inner.data);
@@ -367,7 +398,7 @@ impl<D> MapGate<D> {
         if copy.asleep2_start_write > 0 {
             self.can2_start_write.notify_one();
         }
-        result
+        Ok(result)
     }
 }
 
@@ -441,10 +472,12 @@ impl State {
         Ok(())
     }
 
+    fn can_end_read(&self) -> bool {
+        self.state > 0
+    }
+
     fn run_end_read(&mut self) {
-        if self.state > 0 {
-            self.state = self.state - 1;
-        }
+        self.state = self.state - 1;
     }
 
     fn run_start_write(&mut self) -> Result<(), Overflow> {
@@ -461,6 +494,10 @@ impl State {
         if self.queued > 0 {
             self.queued = self.queued - 1;
         }
+    }
+
+    fn can_end_write(&self) -> bool {
+        self.state == -1
     }
 
     fn run_end_write(&mut self) {
@@ -524,6 +561,18 @@ impl std::error::Error for Overflow {}
 fn narrow(number: i128) -> Result<i64, Overflow> {
     i64::try_from(number).map_err(|_| Overflow)
 }
+
+/// The guard was false, and the call did not wait, or not any longer. Nothing changed.
+#[derive(Clone, Copy, Debug, PartialEq, Eq)]
+pub struct Refused;
+
+impl std::fmt::Display for Refused {
+    fn fmt(&self, f: &mut std::fmt::Formatter<'_>) -> std::fmt::Result {
+        f.write_str("the guard is false")
+    }
+}
+
+impl std::error::Error for Refused {}
 
 /// Why a call that tries, or has a time, has no answer.
 #[derive(Clone, Copy, Debug, PartialEq, Eq)]

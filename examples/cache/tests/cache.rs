@@ -144,6 +144,28 @@ fn each_result_is_made_once() {
 }
 
 #[test]
+fn readers_that_panic_together_let_a_writer_in() {
+    in_a_minute(|| {
+        let cache = Cache::from(HashMap::from([("value", 0)]));
+        let all = Barrier::new(THREADS);
+        thread::scope(|scope| {
+            for _ in 0..THREADS {
+                scope.spawn(|| {
+                    let reader = catch_unwind(AssertUnwindSafe(|| {
+                        let _map = cache.read();
+                        all.wait();
+                        resume_unwind(Box::new("a reader that fails"));
+                    }));
+                    assert!(reader.is_err());
+                    cache.write().entry("value").and_modify(|it| *it += 1);
+                });
+            }
+        });
+        assert_eq!(cache.into_inner()["value"], THREADS);
+    });
+}
+
+#[test]
 fn a_panic_gives_the_map_back() {
     in_a_minute(|| {
         let cache = Cache::from(HashMap::from([("value", 0)]));
