@@ -26,6 +26,8 @@ HEADLINE = ROOT / "docs" / "HEADLINE.md"
 MARK = "<!-- From here on made by tools/definitions.py. -->"
 WIDEST = 100
 SHORT = 160
+# So many steps down from what is shown as code, or from a field of the theorem, a definition has an item of its own.
+DEEPEST = 1
 PRODUCTION = re.compile(r"[a-z_]+ = ")
 
 
@@ -273,7 +275,7 @@ A plan is lawful
 What is asked of a block
   lang_monitor Triples Keeps NoneNeeded OneEnough NoTestNeeded IsValidQuery
   lang_monitor Bodies IsValid
-  lang_monitor Queries keeps_query none_needed_query one_enough_query no_test_query
+  lang_monitor Queries keeps_query none_needed_query one_enough_query
 A plan is backed, and a certificate refutes
   plan_claims Backing IsBacked HasCertificate Certifies backed_claims
   logic_cert Refutes Refutes RefutesFrom closes are_opposite chain_closes chain_goes is_absurd
@@ -288,11 +290,10 @@ A legal log, and where it ends
   machine_events Logs IsLegal IsSection IsBegun IsNotified IsChosen IsFirstWaiter IsClosed rests
 No wake-up is lost
   machine_events Pending WakePending IsStuck
-Lawful by counting
-  machine_events Counts IsLawfulByCounting IsPassedOn IsCounted LeavesCounted slack
-The placed plan, counted, and the rest relayed
-  plan_counted Counted IsCountedFrom IsLeft IsMadeSignal IsTold IsUnnoted IsNoted
-  plan_counted CountedAndRelayed IsCountedAndRelayed
+A condition is counted
+  machine_events Counts IsCounted LeavesCounted slack
+The plan that was asked for
+  expresso_answers Placements IsChosenFrom IsCountTable
 """
 # What another document says in words: of which nothing beneath is told.
 ELSEWHERE = {
@@ -309,6 +310,7 @@ ELSEWHERE = {
     ("logic_wp", "NegatedQueries", "negated_query"): "PROMISES.md#queries-and-certificates",
     ("lang_monitor", "Candidates", "candidates_of"): "GUIDE.md#how-to-read-a-plan",
     ("plan_place", "Relayed", "relay_of"): "ARCHITECTURE.md#the-words",
+    ("machine_events", "Counts", "IsLawfulByCounting"): "ARCHITECTURE.md#the-words",
     ("machine_events", "PlanText", "plan_text"): "GUIDE.md#how-to-read-a-plan",
     ("report_text", "LogText", "log_text"): "GUIDE.md#how-to-read-a-log",
 }
@@ -352,24 +354,26 @@ def has_words(definition):
 
 
 class Teller:
-    """Goes down through definitions, tells each once, and those without words in the item of their parent."""
+    """Goes down through definitions, tells each once, and names those in the item of their parent that have no words or
+    stand deeper: of these the lines lead on."""
 
     def __init__(self, told):
         self.told, self.rows = set(told), []
 
-    def go(self, parent, text, row=None):
+    def go(self, parent, text, row=None, depth=1):
         for definition in reading.beneath(parent, text)[0]:
             if definition.key in self.told:
                 continue
             self.told.add(definition.key)
-            own = row
-            if has_words(definition) or row is None:
+            worded = has_words(definition)
+            if row is None or definition.key in ELSEWHERE or (worded and depth <= DEEPEST):
                 own = [definition]
                 self.rows.append(own)
             else:
+                own = row
                 row.append(definition)
-            if definition.key not in ELSEWHERE:
-                self.go(definition, definition.code, own)
+            if definition.key not in ELSEWHERE and (own is not row or not worded):
+                self.go(definition, definition.code, own, depth + 1)
 
     def items(self):
         rows, self.rows = self.rows, []
