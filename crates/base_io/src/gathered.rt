@@ -1,7 +1,7 @@
 //! Bytes on their way to an output.
 
-ghost use Rattle.std.specs.Prelude.{◌≡◌, ◌<◌, ◌≤◌, ◌+◌, ◌-◌, ◌++◌, OnErr, OnOk, length, min};
-ghost use Rattle.std.specs.Prelude.{slice_range, take};
+ghost use Rattle.std.specs.Prelude.{◌≡◌, ◌<◌, ◌≤◌, ◌+◌, ◌-◌, ◌++◌, ◌↔◌, IsTrue, OnErr, OnOk};
+ghost use Rattle.std.specs.Prelude.{length, min, slice_range, take};
 ghost use Rattle.std.specs.Io.KnownBytes.{Keeps, append_known};
 ghost use Rattle.base_io.specs.Outside.{Rises, most_faults};
 ghost use Rattle.base_io.specs.inner.Gathering.{GATHERED_BYTES};
@@ -35,6 +35,26 @@ impl Gathered {
         }
     }
 
+    /// Whether there is room for so many bytes more.
+    pub(crate) fn has_room(&self, count: usize) -> bool
+        ensures { IsTrue result ↔ (self.now.filled + count ≤ GATHERED_BYTES) }
+    {
+        count <= GATHERED_BYTES - self.filled
+    }
+
+    /// Takes all of these bytes, for which there is room.
+    pub(crate) fn add(&mut self, bytes: &[u8])
+        requires { self.old.filled + length bytes.now ≤ GATHERED_BYTES }
+        ensures taken { slice_range self.new.bytes self.new.handed self.new.filled
+            ≡ slice_range self.old.bytes self.old.handed self.old.filled ++ bytes.now }
+        ensures counted { self.new.filled - self.new.handed
+            ≡ self.old.filled - self.old.handed + length bytes.now }
+    {
+        let end = self.filled + bytes.len();
+        self.bytes[self.filled..end].copy_from_slice(bytes);
+        self.filled = end;
+    }
+
     /// Takes as many of the first of these bytes as there is room for, and says how many.
     pub(crate) fn gather(&mut self, bytes: &[u8]) -> usize
         ensures fits { result ≡ min (length bytes.now) (GATHERED_BYTES - self.old.filled) }
@@ -44,9 +64,7 @@ impl Gathered {
             ≡ self.old.filled - self.old.handed + result }
     {
         let count = bytes.len().min(GATHERED_BYTES - self.filled);
-        let end = self.filled + count;
-        self.bytes[self.filled..end].copy_from_slice(&bytes[..count]);
-        self.filled = end;
+        self.add(&bytes[..count]);
         count
     }
 

@@ -63,6 +63,11 @@ impl<W: Write> Sink for StdSink<W> {
 
     #[tactic(auto, using(crate::proofs::HandedBytes::kept_and_more))]
     fn write(&mut self, bytes: &[u8]) -> Result<usize, SinkFailed> {
+        // Most pieces fit. With no part of them to cut off, a short one is copied in a few steps.
+        if self.gathered.has_room(bytes.len()) {
+            self.gathered.add(bytes);
+            return Ok(bytes.len());
+        }
         self.gathered.make_room(&mut self.out, &mut self.faults)?;
         Ok(self.gathered.gather(bytes))
     }
