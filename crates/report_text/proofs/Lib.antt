@@ -8,6 +8,7 @@ pub mod CandidateBounds
 pub mod PlanLines
 pub mod NamedPlans
 pub mod Wakes
+pub mod WokenRows
 pub mod LogLines
 pub mod NamedLogs
 pub mod LegalEntries

@@ -164,6 +164,20 @@ same_bit woken other client false one two =
     no_bits : (a b : ℕ) → (a ≡ 1 → ⊥) → (b ≡ 1 → ⊥) → a < 2 → b < 2 → a ≡ b
     no_bits a b here there low high = omega (arith, here, there, low, high)
 
+pub set_is_woken : (woken client : ℕ) → bit_at woken client ≡ 1 → is_woken woken client ≡ true
+set_is_woken woken client one = by_test (is_woken woken client) refl
+  where
+    by_test : (test : Bool) → is_woken woken client ≡ test → test ≡ true
+    by_test true is = refl
+    by_test false is = absurd (no_test woken client is ((bit_is woken client).1 one))
+
+pub clear_is_not : (woken client : ℕ) → bit_at woken client ≡ 0 → is_woken woken client ≡ false
+clear_is_not woken client none = by_test (is_woken woken client) refl
+  where
+    by_test : (test : Bool) → is_woken woken client ≡ test → test ≡ false
+    by_test true is = absurd (omega (arith, none, (bit_is woken client).0 (test_is woken client is)))
+    by_test false is = refl
+
 -- the bits are those of clients
 abbrev pub AreClientBits : ℕ → ℕ → Type 0
 AreClientBits count woken = (client : ℕ) → IsBitSet woken client → client < count

@@ -1,12 +1,12 @@
 -- The names of those that a reply woke, written from one of them to the next.
-use Rattle.std.proofs.Common.{◌≡◌, ℕ, zero, suc, ◌+◌, ◌-◌, ◌/◌, ◌%◌, ◌^◌, ◌<◌, ◌≤◌, ◌==◌, ◌++◌, ◌∷◌, [], ◌∙◌, Bool, true, false, List, length, get_or, take, codes, ap, sym, refl, subst, append-nil, arith, inl, inr}
+use Rattle.std.proofs.Common.{◌≡◌, ℕ, zero, suc, ◌+◌, ◌-◌, ◌/◌, ◌%◌, ◌^◌, ◌<◌, ◌≤◌, ◌++◌, ◌∷◌, [], ◌∙◌, true, false, List, take, codes, ap, sym, refl, append-nil, arith}
 use Rattle.std.specs.Int.{bit_at, trailing_zeros, w32}
 use Rattle.std.specs.List.{flat_map, enumerate_from}
 use Rattle.std.proofs.lemmas.Nat.Bits.{bit_at-zero, bit_at-trailing_zeros}
 use Rattle.std.proofs.Math.Nat.{div-le_self}
 use lib.Pow.{shr-shr}
 use Rattle.machine_implicit.specs.declared.script.Client.{Client}
-use Rattle.report_text.specs.LogText.{is_woken, woken_name, woken_names}
+use Rattle.report_text.specs.LogText.{is_woken, woken_name}
 use Rattle.report_text.proofs.Wakes.{set_is_woken, clear_is_not}
 
 -- ---- the bits from a place on

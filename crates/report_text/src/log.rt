@@ -1,12 +1,12 @@
 //! The text of a log.
 
-ghost use Rattle.std.specs.Prelude.{◌≡◌, ◌<◌, ◌≤◌, length};
+ghost use Rattle.std.specs.Prelude.{◌≡◌, ◌<◌, ◌≤◌, ℕ, false, length, true};
 ghost use Rattle.std.specs.List.{flat_map};
 ghost use Rattle.lang_base.specs.Limits.{CLIENTS};
 ghost use Rattle.base_io.specs.Writing.{Wrote};
 ghost use Rattle.machine_events.specs.Configurations.{situation_of};
 ghost use Rattle.report_text.specs.LogText.{are_done, closing_text, entry_text, is_woken, log_text};
-ghost use Rattle.report_text.specs.LogText.{replied_text, wakes_text, woken_name, woken_names};
+ghost use Rattle.report_text.specs.LogText.{replied_text, wakes_text, woken_names};
 
 use crate::ending::{Left, has_done, write_end};
 use crate::turns::{name_of, write_call, write_state};
@@ -136,38 +136,32 @@ fn write_wakes<S: Sink>(clients: &[Client], woken: u32, out: &mut S) -> Result<(
     write_woken(clients, woken, out)
 }
 
-// A blank and a name for each client that was woken, in file order.
+// A blank and a name for each client that was woken, in file order. Mostly one was, of many: so it
+// goes from one of them to the next.
 fn write_woken<S: Sink>(clients: &[Client], woken: u32, out: &mut S) -> Result<(), SinkFailed>
     requires { length clients.now ≤ CLIENTS }
     ensures { Wrote (S.seen out.old) (S.seen out.new) result (woken_names woken clients.now) }
 {
-    for (number, client) in clients.iter().enumerate() {
-        write_if_woken(woken, number as u32, client, out)?;
+    let mut passed = 0;
+    while passed < clients.len() {
+        let number = next_woken(woken, passed);
+        if number >= clients.len() {
+            return Ok(());
+        }
+        write_pieces(&[b" ", clients[number].name.bytes()], out)?;
+        passed = number + 1;
     }
     Ok(())
 }
 
-// A blank and the client's name, where it was woken.
-fn write_if_woken<S: Sink>(
-    woken: u32,
-    number: u32,
-    client: &Client,
-    out: &mut S,
-) -> Result<(), SinkFailed>
-    requires { number < CLIENTS }
-    ensures { Wrote (S.seen out.old) (S.seen out.new) result
-        (woken_name woken number client.now) }
+// The first client from this one on whose bit is set, or a number that no client has.
+fn next_woken(woken: u32, from: usize) -> usize
+    requires { from < CLIENTS }
+    ensures from { from ≤ result }
+    ensures none { (number : ℕ) → from ≤ number → number < result
+        → is_woken woken number ≡ false }
+    ensures woken { result < CLIENTS → is_woken woken result ≡ true }
 {
-    if !is_woken(woken, number) {
-        return Ok(());
-    }
-    write_pieces(&[b" ", client.name.bytes()], out)
-}
-
-// Whether the client's bit is set.
-fn is_woken(woken: u32, client: u32) -> bool
-    requires { client < CLIENTS }
-    ensures { result ≡ is_woken woken client }
-{
-    woken & (1 << client) != 0
+    let rest = woken >> from;
+    from + rest.trailing_zeros() as usize
 }
