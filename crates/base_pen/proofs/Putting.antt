@@ -1,10 +1,13 @@
 -- Texts that were put on a sink one after the other.
-use Rattle.std.proofs.Common.{◌≡◌, ◌∙◌, ℕ, ◌+◌, ◌<◌, ◌++◌, List, [], Result, Ok, Err, IsErr, OnOk, OnErr, length, get_or, take, refl, sym, ap, subst}
-use Rattle.std.specs.List.{flat_map}
+use Rattle.std.proofs.Common.{◌≡◌, ◌∙◌, ℕ, ◌+◌, ◌<◌, ◌≤◌, ◌++◌, List, [], Result, Ok, Err, OnOk, OnErr, length, get_or, take, refl, sym, ap, subst, arith}
+use Rattle.std.specs.List.{flat_map, enumerate_from}
+use Rattle.std.proofs.lemmas.List.{take_all}
+use Rattle.std.proofs.lemmas.List.FromFn.{length-enumerate_from, get_or-enumerate_from}
 use Rattle.base_io.specs.declared.sink.SinkFailed.{SinkFailed}
 use Rattle.base_io.specs.Outside.{SinkSeen}
 use Rattle.base_io.specs.Writing.{Wrote}
 use Rattle.base_io.proofs.Writing.{wrote_both, wrote_longer}
+use Rattle.base_io.proofs.WrittenBytes.{appends_none}
 use Rattle.base_io.proofs.Rows.{flat_map-next}
 use Rattle.base_pen.specs.Putting.{Adds}
 use Rattle.base_pen.specs.declared.pen.Pen.{Pen}
@@ -42,11 +45,25 @@ adds_both {seen = seen} {p0 = p0} {p1 = p1} {p2 = p2} {a = a} {b = b} p q = reco
   after = stays_after p0 p1 p2 p0.outcome p1.outcome refl refl p.after q.after;
 }
 
+wrote_nothing : (seen : SinkSeen) (outcome : Result (Unit {0}) SinkFailed) → OnOk outcome (Wrote seen seen outcome [])
+wrote_nothing seen (Ok u) = record { written = appends_none seen.written []; front = tt; steady = refl; cause = tt; later = omega arith }
+wrote_nothing seen (Err e) = tt
+
+err_same : {X : Type 0} (x : X) (outcome : Result (Unit {0}) SinkFailed) → OnErr outcome (x ≡ x)
+err_same x (Ok u) = tt
+err_same x (Err e) = refl
+
+none : {S : Type 0} (seen : S → SinkSeen) (pen : Pen S) → Adds seen pen pen []
+none seen pen = record { same = refl; written = wrote_nothing (seen pen.out.now) pen.outcome; after = err_same pen pen.outcome }
+
 -- an equal text
 pub adds_same : {S : Type 0} {seen : S → SinkSeen} {p0 p1 : Pen S} {a : List ℕ} (b : List ℕ) → a ≡ b → Adds seen p0 p1 a → Adds seen p0 p1 b
 adds_same {seen = seen} {p0 = p0} {p1 = p1} b same p = subst (λ (text : List ℕ). Adds seen p0 p1 text) same p
 
--- ---- a text that several calls put, one after the other, named by `using` on the function
+-- ---- a text that so many calls put, one after the other: `using` names the one that fits
+
+pub adds_nothing : {S : Type 0} {seen : S → SinkSeen} {pen : Pen S} (text : List ℕ) → [] ≡ text → Adds seen pen pen text
+adds_nothing {seen = seen} {pen = pen} text is = adds_same text is (none seen pen)
 
 pub adds_two : {S : Type 0} {seen : S → SinkSeen} {p0 p1 p2 : Pen S} {a b : List ℕ} (text : List ℕ)
     → Adds seen p0 p1 a → Adds seen p1 p2 b → a ++ b ≡ text → Adds seen p0 p2 text
@@ -79,3 +96,29 @@ pub adds_next : {X : Type 0} {S : Type 0} {seen : S → SinkSeen} {p0 p1 p2 : Pe
     → i < length xs → x ≡ get_or xs i x → text ≡ f x → Adds seen p0 p1 (flat_map f (take i xs)) → Adds seen p1 p2 text → Adds seen p0 p2 (flat_map f (take (i + 1) xs))
 adds_next f xs i x text within is says before here =
     adds_same _ (ap (λ y. flat_map f (take i xs) ++ y) (says ∙ ap f is) ∙ flat_map-next f xs i x within) (adds_both before here)
+
+-- ---- a row, put element by element, each by its number
+
+-- the text of an element with its number
+abbrev pub numbered : {X : Type 0} → (ℕ → X → List ℕ) → ℕ × X → List ℕ
+numbered f one = f one.0 one.1
+
+abbrev both : {A B : Type 0} → A → B → A × B
+both x y = (x, y)
+
+at : {X : Type 0} (start : ℕ) (xs : List X) (i : ℕ) (x : X) → i < length xs → x ≡ get_or xs i x
+    → both (start + i) x ≡ get_or (enumerate_from start xs) i (both (start + i) x)
+at start xs i x less is = ap (λ y. both (start + i) y) is ∙ sym (get_or-enumerate_from start xs i (both (start + i) x) less)
+
+-- the next text of such a row
+pub adds_numbered : {X : Type 0} {S : Type 0} {seen : S → SinkSeen} {p0 p1 p2 : Pen S} (f : ℕ → X → List ℕ) (start : ℕ) (xs : List X) (i : ℕ) (x : X) (text : List ℕ)
+    → i < length xs → x ≡ get_or xs i x → text ≡ f (start + i) x → Adds seen p0 p1 (flat_map (numbered f) (take i (enumerate_from start xs))) → Adds seen p1 p2 text
+    → Adds seen p0 p2 (flat_map (numbered f) (take (i + 1) (enumerate_from start xs)))
+adds_numbered f start xs i x text less is says before here =
+    adds_next (numbered f) (enumerate_from start xs) i (both (start + i) x) text (omega (arith, length-enumerate_from start xs)) (at start xs i x less is) says before here
+
+-- the whole of such a row
+pub adds_all_numbered : {X : Type 0} {S : Type 0} {seen : S → SinkSeen} {p0 p1 : Pen S} (f : ℕ → X → List ℕ) (start : ℕ) (xs : List X) (i : ℕ)
+    → length xs ≤ i → Adds seen p0 p1 (flat_map (numbered f) (take i (enumerate_from start xs))) → Adds seen p0 p1 (flat_map (numbered f) (enumerate_from start xs))
+adds_all_numbered f start xs i end all =
+    adds_same _ (ap (flat_map (numbered f)) (take_all i (enumerate_from start xs) (omega (arith, length-enumerate_from start xs)))) all
