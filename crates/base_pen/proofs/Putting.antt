@@ -106,16 +106,17 @@ numbered f one = f one.0 one.1
 abbrev both : {A B : Type 0} → A → B → A × B
 both x y = (x, y)
 
-at : {X : Type 0} (start : ℕ) (xs : List X) (i : ℕ) (x : X) → i < length xs → x ≡ get_or xs i x
-    → both (start + i) x ≡ get_or (enumerate_from start xs) i (both (start + i) x)
-at start xs i x less is = ap (λ y. both (start + i) y) is ∙ sym (get_or-enumerate_from start xs i (both (start + i) x) less)
+at : {X : Type 0} (start : ℕ) (xs : List X) (i number : ℕ) (x : X) → number ≡ start + i → i < length xs → x ≡ get_or xs i x
+    → both number x ≡ get_or (enumerate_from start xs) i (both number x)
+at {X} start xs i number x counted less is =
+    ap (λ (n : ℕ). both n x) counted ∙ ap (λ (y : X). both (start + i) y) is ∙ sym (get_or-enumerate_from start xs i (both number x) less)
 
 -- the next text of such a row
-pub adds_numbered : {X : Type 0} {S : Type 0} {seen : S → SinkSeen} {p0 p1 p2 : Pen S} (f : ℕ → X → List ℕ) (start : ℕ) (xs : List X) (i : ℕ) (x : X) (text : List ℕ)
-    → i < length xs → x ≡ get_or xs i x → text ≡ f (start + i) x → Adds seen p0 p1 (flat_map (numbered f) (take i (enumerate_from start xs))) → Adds seen p1 p2 text
+pub adds_numbered : {X : Type 0} {S : Type 0} {seen : S → SinkSeen} {p0 p1 p2 : Pen S} (f : ℕ → X → List ℕ) (start : ℕ) (xs : List X) (i number : ℕ) (x : X) (text : List ℕ)
+    → number ≡ start + i → i < length xs → x ≡ get_or xs i x → text ≡ f number x → Adds seen p0 p1 (flat_map (numbered f) (take i (enumerate_from start xs))) → Adds seen p1 p2 text
     → Adds seen p0 p2 (flat_map (numbered f) (take (i + 1) (enumerate_from start xs)))
-adds_numbered f start xs i x text less is says before here =
-    adds_next (numbered f) (enumerate_from start xs) i (both (start + i) x) text (omega (arith, length-enumerate_from start xs)) (at start xs i x less is) says before here
+adds_numbered f start xs i number x text counted less is says before here =
+    adds_next (numbered f) (enumerate_from start xs) i (both number x) text (omega (arith, length-enumerate_from start xs)) (at start xs i number x counted less is) says before here
 
 -- the whole of such a row
 pub adds_all_numbered : {X : Type 0} {S : Type 0} {seen : S → SinkSeen} {p0 p1 : Pen S} (f : ℕ → X → List ℕ) (start : ℕ) (xs : List X) (i : ℕ)
