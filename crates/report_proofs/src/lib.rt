@@ -27,4 +27,6 @@ pub use laws::{
 pub use plan_reading::{plan_front, read_plan};
 pub use ranges::{read_cert_numbers, read_numbers};
 pub use report_reading::{read_cert_line, read_proof, read_proofs, read_report};
-pub use writing::{write_claim, write_proof, write_report, write_verdict};
+pub use writing::{
+    put_candidate, put_claim, write_claim, write_proof, write_report, write_verdict,
+};

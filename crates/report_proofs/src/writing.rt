@@ -3,14 +3,18 @@
 ghost use Rattle.std.specs.Prelude.{◌≡◌, ◌++◌, codes, decimal, slice_get};
 ghost use Rattle.std.specs.List.{flat_map};
 ghost use Rattle.base_io.specs.Writing.{Wrote};
+ghost use Rattle.base_pen.specs.Putting.{Adds};
 ghost use Rattle.machine_events.specs.PlanText.{block_name, candidate_text, field_name, flag_mark};
+ghost use Rattle.machine_events.specs.PlanText.{plan_text};
+ghost use Rattle.logic_cert.specs.CertText.{cert_text};
 ghost use Rattle.report_proofs.specs.ReportTexts.{claim_text, placed_text, proof_text};
 ghost use Rattle.report_proofs.specs.ReportTexts.{verdict_text};
 
-use base_io::{Sink, SinkFailed, write_piece, write_pieces};
-use itoa::Buffer;
+use base_io::{Sink, SinkFailed};
+use base_pen::Pen;
 use lang_monitor::{Candidate, Claim, Field, Monitor};
 use logic_cert::{Cert, print_cert};
+use machine_events::Plan;
 use plan_claims::{PlacedPlan, Proof};
 use report_text::{write_block_name, write_candidate, write_plan};
 use report_verdict::Verdict;
@@ -26,19 +30,36 @@ pub fn write_report<S: Sink>(
 ) -> Result<(), SinkFailed>
     ensures { Wrote (S.seen out.old) (S.seen out.new) result (placed_text monitor.now placed.now) }
 {
-    write_plan(monitor, &placed.plan, out)?;
-    write_proofs(monitor, placed.proofs.items(), out)
+    let mut pen = Pen::new(out);
+    put_report(monitor, placed, &mut pen);
+    pen.outcome
+}
+
+#[tactic(auto, using(base_pen::proofs::Putting::adds_two))]
+fn put_report<S: Sink>(monitor: &Monitor, placed: &PlacedPlan, pen: &mut Pen<'_, S>)
+    ensures { Adds S.seen pen.old pen.new (placed_text monitor.now placed.now) }
+{
+    put_plan(monitor, &placed.plan, pen);
+    put_proofs(monitor, placed.proofs.items(), pen);
+}
+
+/// The text of a plan.
+fn put_plan<S: Sink>(monitor: &Monitor, plan: &Plan, pen: &mut Pen<'_, S>)
+    ensures { Adds S.seen pen.old pen.new (plan_text monitor.now plan.now) }
+{
+    if pen.outcome.is_ok() {
+        pen.outcome = write_plan(monitor, plan, pen.out);
+    }
 }
 
 /// A line for each proof.
-fn write_proofs<S: Sink>(monitor: &Monitor, proofs: &[Proof], out: &mut S) -> Result<(), SinkFailed>
-    ensures { Wrote (S.seen out.old) (S.seen out.new) result
+fn put_proofs<S: Sink>(monitor: &Monitor, proofs: &[Proof], pen: &mut Pen<'_, S>)
+    ensures { Adds S.seen pen.old pen.new
         (flat_map (λ proof. proof_text monitor.now proof.claim proof.cert) proofs.now) }
 {
     for proof in proofs {
-        write_proof(monitor, proof.claim, &proof.cert, out)?;
+        put_proof(monitor, proof.claim, &proof.cert, pen);
     }
-    Ok(())
 }
 
 /// Writes the line of a claim with its certificate: `proof none put 2: clash 0 1` and a line feed.
@@ -54,23 +75,39 @@ pub fn write_proof<S: Sink>(
     ensures { Wrote (S.seen out.old) (S.seen out.new) result
         (proof_text monitor.now claim cert.now) }
 {
-    write_claim_head(monitor, claim, out)?;
-    print_cert(cert, out)?;
-    write_piece(b"\n", out)
+    let mut pen = Pen::new(out);
+    put_proof(monitor, claim, cert, &mut pen);
+    pen.outcome
+}
+
+/// The line of a claim with its certificate.
+#[tactic(auto, using(base_pen::proofs::Putting::adds_three))]
+fn put_proof<S: Sink>(monitor: &Monitor, claim: Claim, cert: &Cert, pen: &mut Pen<'_, S>)
+    ensures { Adds S.seen pen.old pen.new (proof_text monitor.now claim cert.now) }
+{
+    put_claim_head(monitor, claim, pen);
+    put_cert(cert, pen);
+    pen.put(b"\n");
 }
 
 /// `proof none put 2: `
-pub(crate) fn write_claim_head<S: Sink>(
-    monitor: &Monitor,
-    claim: Claim,
-    out: &mut S,
-) -> Result<(), SinkFailed>
-    ensures { Wrote (S.seen out.old) (S.seen out.new) result
+#[tactic(auto, using(base_pen::proofs::Putting::adds_three))]
+pub(crate) fn put_claim_head<S: Sink>(monitor: &Monitor, claim: Claim, pen: &mut Pen<'_, S>)
+    ensures { Adds S.seen pen.old pen.new
         (codes "proof " ++ claim_text monitor.now claim ++ codes ": ") }
 {
-    write_piece(b"proof ", out)?;
-    write_claim(monitor, claim, out)?;
-    write_piece(b": ", out)
+    pen.put(b"proof ");
+    put_claim(monitor, claim, pen);
+    pen.put(b": ");
+}
+
+/// The text of a certificate.
+fn put_cert<S: Sink>(cert: &Cert, pen: &mut Pen<'_, S>)
+    ensures { Adds S.seen pen.old pen.new (cert_text cert.now) }
+{
+    if pen.outcome.is_ok() {
+        pen.outcome = print_cert(cert, pen.out);
+    }
 }
 
 /// Writes a claim, as it stands in the line of a proof: `keep x <= 4 put`, `none put 2`,
@@ -80,91 +117,86 @@ pub(crate) fn write_claim_head<S: Sink>(
 pub fn write_claim<S: Sink>(monitor: &Monitor, claim: Claim, out: &mut S) -> Result<(), SinkFailed>
     ensures { Wrote (S.seen out.old) (S.seen out.new) result (claim_text monitor.now claim) }
 {
+    let mut pen = Pen::new(out);
+    put_claim(monitor, claim, &mut pen);
+    pen.outcome
+}
+
+/// Puts a claim, as [`write_claim`] writes it.
+pub fn put_claim<S: Sink>(monitor: &Monitor, claim: Claim, pen: &mut Pen<'_, S>)
+    ensures { Adds S.seen pen.old pen.new (claim_text monitor.now claim) }
+{
     match claim {
-        Claim::Keeps { candidate, block } => write_keeps(monitor, candidate, block, out),
+        Claim::Keeps { candidate, block } => put_keeps(monitor, candidate, block, pen),
         Claim::NoNote { block, condition } => {
-            write_after_block(b"none ", monitor, block, condition, out)
+            put_after_block(b"none ", monitor, block, condition, pen)
         }
-        Claim::One { condition, block } => write_one(monitor, condition, block, out),
+        Claim::One { condition, block } => put_one(monitor, condition, block, pen),
         Claim::NoTest { block, condition } => {
-            write_after_block(b"untested ", monitor, block, condition, out)
+            put_after_block(b"untested ", monitor, block, condition, pen)
         }
     }
 }
 
 /// `keep x <= 4 put`
-fn write_keeps<S: Sink>(
-    monitor: &Monitor,
-    candidate: Candidate,
-    block: u32,
-    out: &mut S,
-) -> Result<(), SinkFailed>
-    ensures { Wrote (S.seen out.old) (S.seen out.new) result
+#[tactic(auto, using(base_pen::proofs::Putting::adds_four))]
+fn put_keeps<S: Sink>(monitor: &Monitor, candidate: Candidate, block: u32, pen: &mut Pen<'_, S>)
+    ensures { Adds S.seen pen.old pen.new
         (codes "keep " ++ candidate_text monitor.now.fields candidate ++ codes " "
         ++ block_name monitor.now block) }
 {
-    write_piece(b"keep ", out)?;
-    write_candidate(monitor.fields(), candidate, out)?;
-    write_piece(b" ", out)?;
-    write_block_name(monitor, block as usize, out)
+    pen.put(b"keep ");
+    put_candidate(monitor, candidate, pen);
+    pen.put(b" ");
+    put_block_name(monitor, block as usize, pen);
+}
+
+/// Puts a candidate about the fields of the monitor.
+pub fn put_candidate<S: Sink>(monitor: &Monitor, candidate: Candidate, pen: &mut Pen<'_, S>)
+    ensures { Adds S.seen pen.old pen.new (candidate_text monitor.now.fields candidate) }
+{
+    if pen.outcome.is_ok() {
+        pen.outcome = write_candidate(monitor.fields(), candidate, pen.out);
+    }
 }
 
 /// `one 1 put`
-fn write_one<S: Sink>(
-    monitor: &Monitor,
-    condition: u32,
-    block: u32,
-    out: &mut S,
-) -> Result<(), SinkFailed>
-    ensures { Wrote (S.seen out.old) (S.seen out.new) result
+#[tactic(auto, using(base_pen::proofs::Putting::adds_four))]
+fn put_one<S: Sink>(monitor: &Monitor, condition: u32, block: u32, pen: &mut Pen<'_, S>)
+    ensures { Adds S.seen pen.old pen.new
         (codes "one " ++ decimal condition ++ codes " " ++ block_name monitor.now block) }
 {
-    write_count(b"one ", condition as u64, b" ", out)?;
-    write_block_name(monitor, block as usize, out)
+    pen.put(b"one ");
+    pen.decimal(condition as u64);
+    pen.put(b" ");
+    put_block_name(monitor, block as usize, pen);
 }
 
 /// `none put 2`, with these words before the block.
-fn write_after_block<S: Sink>(
+#[tactic(auto, using(base_pen::proofs::Putting::adds_four))]
+fn put_after_block<S: Sink>(
     words: &[u8],
     monitor: &Monitor,
     block: u32,
     condition: u32,
-    out: &mut S,
-) -> Result<(), SinkFailed>
-    ensures { Wrote (S.seen out.old) (S.seen out.new) result
+    pen: &mut Pen<'_, S>,
+)
+    ensures { Adds S.seen pen.old pen.new
         (words.now ++ block_name monitor.now block ++ codes " " ++ decimal condition) }
 {
-    write_named(words, monitor, block as usize, b" ", out)?;
-    write_number(condition as u64, out)
+    pen.put(words);
+    put_block_name(monitor, block as usize, pen);
+    pen.put(b" ");
+    pen.decimal(condition as u64);
 }
 
-/// The name of a block between two words.
-pub(crate) fn write_named<S: Sink>(
-    before: &[u8],
-    monitor: &Monitor,
-    block: usize,
-    after: &[u8],
-    out: &mut S,
-) -> Result<(), SinkFailed>
-    ensures { Wrote (S.seen out.old) (S.seen out.new) result
-        (before.now ++ block_name monitor.now block ++ after.now) }
+/// The name of a block, by its number in the monitor.
+pub(crate) fn put_block_name<S: Sink>(monitor: &Monitor, block: usize, pen: &mut Pen<'_, S>)
+    ensures { Adds S.seen pen.old pen.new (block_name monitor.now block) }
 {
-    write_piece(before, out)?;
-    write_block_name(monitor, block, out)?;
-    write_piece(after, out)
-}
-
-/// What stands on both sides of a sign.
-fn write_sides<'a, S: Sink>(
-    left: &'a [u8],
-    sign: &'a [u8],
-    right: &'a [u8],
-    out: &mut S,
-) -> Result<(), SinkFailed>
-    ensures { Wrote (S.seen out.old) (S.seen out.new) result
-        (left.now ++ sign.now ++ right.now) }
-{
-    write_pieces(&[left, sign, right], out)
+    if pen.outcome.is_ok() {
+        pen.outcome = write_block_name(monitor, block, pen.out);
+    }
 }
 
 /// The name of a field, or nothing where there is none.
@@ -190,30 +222,27 @@ pub(crate) fn flag_bytes(is: bool) -> &'static [u8]
 pub fn write_verdict<S: Sink>(verdict: &Verdict, out: &mut S) -> Result<(), SinkFailed>
     ensures { Wrote (S.seen out.old) (S.seen out.new) result (verdict_text verdict.now) }
 {
+    let mut pen = Pen::new(out);
+    put_verdict(verdict, &mut pen);
+    pen.outcome
+}
+
+fn put_verdict<S: Sink>(verdict: &Verdict, pen: &mut Pen<'_, S>)
+    ensures { Adds S.seen pen.old pen.new (verdict_text verdict.now) }
+{
     match *verdict {
-        Verdict::Accepted { claims } => write_count(b"accepted ", claims, b" claims\n", out),
-        Verdict::Unlawful => write_piece(b"rejected: plan\n", out),
-        Verdict::Unproved { line } => write_count(b"rejected: line ", line, b"\n", out),
+        Verdict::Accepted { claims } => put_count(b"accepted ", claims, b" claims\n", pen),
+        Verdict::Unlawful => pen.put(b"rejected: plan\n"),
+        Verdict::Unproved { line } => put_count(b"rejected: line ", line, b"\n", pen),
     }
 }
 
 /// A number between two words.
-fn write_count<S: Sink>(
-    before: &[u8],
-    number: u64,
-    after: &[u8],
-    out: &mut S,
-) -> Result<(), SinkFailed>
-    ensures { Wrote (S.seen out.old) (S.seen out.new) result
-        (before.now ++ decimal number ++ after.now) }
+#[tactic(auto, using(base_pen::proofs::Putting::adds_three))]
+fn put_count<S: Sink>(before: &[u8], number: u64, after: &[u8], pen: &mut Pen<'_, S>)
+    ensures { Adds S.seen pen.old pen.new (before.now ++ decimal number ++ after.now) }
 {
-    let mut digits = Buffer::new();
-    write_sides(before, digits.format(number).as_bytes(), after, out)
-}
-
-fn write_number<S: Sink>(number: u64, out: &mut S) -> Result<(), SinkFailed>
-    ensures { Wrote (S.seen out.old) (S.seen out.new) result (decimal number) }
-{
-    let mut digits = Buffer::new();
-    write_piece(digits.format(number).as_bytes(), out)
+    pen.put(before);
+    pen.decimal(number);
+    pen.put(after);
 }

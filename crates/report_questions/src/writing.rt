@@ -1,11 +1,12 @@
 //! The words of a question.
 
-ghost use Rattle.std.specs.Prelude.{◌++◌, decimal};
 ghost use Rattle.base_io.specs.Writing.{Wrote};
+ghost use Rattle.base_pen.specs.Putting.{Adds};
+ghost use Rattle.machine_events.specs.PlanText.{block_name};
 ghost use Rattle.report_questions.specs.QuestionText.{asked_text, question_text, row_mark};
 
-use base_io::{Sink, SinkFailed, write_pieces};
-use itoa::Buffer;
+use base_io::{Sink, SinkFailed};
+use base_pen::Pen;
 use lang_monitor::Monitor;
 use plan_count::Question;
 use report_text::write_block_name;
@@ -22,73 +23,72 @@ pub fn write_question<S: Sink>(
     ensures { Wrote (S.seen out.old) (S.seen out.new) result
         (question_text monitor.now question) }
 {
+    let mut pen = Pen::new(out);
+    put_question(monitor, question, &mut pen);
+    pen.outcome
+}
+
+/// Puts a question, as [`write_question`] writes it.
+pub fn put_question<S: Sink>(monitor: &Monitor, question: Question, pen: &mut Pen<'_, S>)
+    ensures { Adds S.seen pen.old pen.new (question_text monitor.now question) }
+{
     match question {
         Question::Counts {
             condition,
             row,
             block,
-        } => write_asked(b"counts ", monitor, condition, row, block, out),
+        } => put_asked(b"counts ", monitor, condition, row, block, pen),
         Question::Gives {
             condition,
             row,
             block,
-        } => write_asked(b"gives ", monitor, condition, row, block, out),
+        } => put_asked(b"gives ", monitor, condition, row, block, pen),
         Question::First {
             condition,
             row,
             block,
-        } => write_asked(b"first ", monitor, condition, row, block, out),
+        } => put_asked(b"first ", monitor, condition, row, block, pen),
     }
 }
 
 /// A word, and then `2 put`, or `2 (row 3) put`.
-fn write_asked<S: Sink>(
+#[tactic(auto, using(base_pen::proofs::Putting::adds_five))]
+fn put_asked<S: Sink>(
     word: &[u8],
     monitor: &Monitor,
     condition: u32,
     row: u32,
     block: u32,
-    out: &mut S,
-) -> Result<(), SinkFailed>
-    ensures { Wrote (S.seen out.old) (S.seen out.new) result
+    pen: &mut Pen<'_, S>,
+)
+    ensures { Adds S.seen pen.old pen.new
         (asked_text monitor.now word.now condition row block) }
 {
-    write_number(word, condition, b" ", out)?;
-    write_row(row, out)?;
-    write_block_name(monitor, block as usize, out)
+    pen.put(word);
+    pen.decimal(condition as u64);
+    pen.put(b" ");
+    put_row(row, pen);
+    put_block_name(monitor, block, pen);
 }
 
 /// `(row 3) `, and nothing for the first row.
-fn write_row<S: Sink>(row: u32, out: &mut S) -> Result<(), SinkFailed>
-    ensures { Wrote (S.seen out.old) (S.seen out.new) result (row_mark row) }
+#[tactic(auto, using(base_pen::proofs::Putting::adds_nothing, base_pen::proofs::Putting::adds_three))]
+fn put_row<S: Sink>(row: u32, pen: &mut Pen<'_, S>)
+    ensures { Adds S.seen pen.old pen.new (row_mark row) }
 {
     if row == 1 {
-        return Ok(());
+        return;
     }
-    write_number(b"(row ", row, b") ", out)
+    pen.put(b"(row ");
+    pen.decimal(row as u64);
+    pen.put(b") ");
 }
 
-/// A number between two texts.
-fn write_number<S: Sink>(
-    before: &[u8],
-    number: u32,
-    after: &[u8],
-    out: &mut S,
-) -> Result<(), SinkFailed>
-    ensures { Wrote (S.seen out.old) (S.seen out.new) result
-        (before.now ++ decimal number ++ after.now) }
+/// The name of a block.
+fn put_block_name<S: Sink>(monitor: &Monitor, block: u32, pen: &mut Pen<'_, S>)
+    ensures { Adds S.seen pen.old pen.new (block_name monitor.now block) }
 {
-    let mut digits = Buffer::new();
-    write_three(before, digits.format(number).as_bytes(), after, out)
-}
-
-fn write_three<'a, S: Sink>(
-    one: &'a [u8],
-    two: &'a [u8],
-    three: &'a [u8],
-    out: &mut S,
-) -> Result<(), SinkFailed>
-    ensures { Wrote (S.seen out.old) (S.seen out.new) result (one.now ++ two.now ++ three.now) }
-{
-    write_pieces(&[one, two, three], out)
+    if pen.outcome.is_ok() {
+        pen.outcome = write_block_name(monitor, block as usize, pen.out);
+    }
 }
