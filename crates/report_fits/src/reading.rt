@@ -10,8 +10,9 @@ ghost use Rattle.report_fits.specs.FitTexts.{fit_line};
 ghost use Rattle.report_fits.specs.inner.Reading.{IsFitTurn};
 
 use super::fit::Fit;
-use super::writing::write_fit_head;
+use super::writing::put_fit_head;
 use base_io::GrowingSink;
+use base_pen::Pen;
 use lang_monitor::Monitor;
 use logic_outline::Outline;
 use report_proofs::{after_piece, read_cert_line};
@@ -103,6 +104,8 @@ fn fit_head(alloc: Global, monitor: &Monitor, block: u32) -> Result<Vec<u8>, All
         ≡ codes "proof fits " ++ block_name monitor.now block ++ codes ": ") }
 {
     let mut out = GrowingSink::new(alloc);
-    write_fit_head(monitor, block, &mut out).map_err(|_| AllocError)?;
+    let mut pen = Pen::new(&mut out);
+    put_fit_head(monitor, block, &mut pen);
+    pen.outcome.map_err(|_| AllocError)?;
     Ok(out.into_bytes())
 }

@@ -28,5 +28,6 @@ pub use plan_reading::{plan_front, read_plan};
 pub use ranges::{read_cert_numbers, read_numbers};
 pub use report_reading::{read_cert_line, read_proof, read_proofs, read_report};
 pub use writing::{
-    put_candidate, put_claim, write_claim, write_proof, write_report, write_verdict,
+    put_block_name, put_candidate, put_cert, put_claim, put_plan, put_proof, write_claim,
+    write_report, write_verdict,
 };

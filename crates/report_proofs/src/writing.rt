@@ -43,8 +43,8 @@ fn put_report<S: Sink>(monitor: &Monitor, placed: &PlacedPlan, pen: &mut Pen<'_,
     put_proofs(monitor, placed.proofs.items(), pen);
 }
 
-/// The text of a plan.
-fn put_plan<S: Sink>(monitor: &Monitor, plan: &Plan, pen: &mut Pen<'_, S>)
+/// Puts the text of a plan.
+pub fn put_plan<S: Sink>(monitor: &Monitor, plan: &Plan, pen: &mut Pen<'_, S>)
     ensures { Adds S.seen pen.old pen.new (plan_text monitor.now plan.now) }
 {
     if pen.outcome.is_ok() {
@@ -62,27 +62,9 @@ fn put_proofs<S: Sink>(monitor: &Monitor, proofs: &[Proof], pen: &mut Pen<'_, S>
     }
 }
 
-/// Writes the line of a claim with its certificate: `proof none put 2: clash 0 1` and a line feed.
-/// It takes no memory.
-///
-/// After `SinkFailed` the first bytes of the line were taken, fewer than all and maybe none.
-pub fn write_proof<S: Sink>(
-    monitor: &Monitor,
-    claim: Claim,
-    cert: &Cert,
-    out: &mut S,
-) -> Result<(), SinkFailed>
-    ensures { Wrote (S.seen out.old) (S.seen out.new) result
-        (proof_text monitor.now claim cert.now) }
-{
-    let mut pen = Pen::new(out);
-    put_proof(monitor, claim, cert, &mut pen);
-    pen.outcome
-}
-
-/// The line of a claim with its certificate.
+/// Puts the line of a claim with its certificate: `proof none put 2: clash 0 1` and a line feed.
 #[tactic(auto, using(base_pen::proofs::Putting::adds_three))]
-fn put_proof<S: Sink>(monitor: &Monitor, claim: Claim, cert: &Cert, pen: &mut Pen<'_, S>)
+pub fn put_proof<S: Sink>(monitor: &Monitor, claim: Claim, cert: &Cert, pen: &mut Pen<'_, S>)
     ensures { Adds S.seen pen.old pen.new (proof_text monitor.now claim cert.now) }
 {
     put_claim_head(monitor, claim, pen);
@@ -101,8 +83,8 @@ pub(crate) fn put_claim_head<S: Sink>(monitor: &Monitor, claim: Claim, pen: &mut
     pen.put(b": ");
 }
 
-/// The text of a certificate.
-fn put_cert<S: Sink>(cert: &Cert, pen: &mut Pen<'_, S>)
+/// Puts the text of a certificate.
+pub fn put_cert<S: Sink>(cert: &Cert, pen: &mut Pen<'_, S>)
     ensures { Adds S.seen pen.old pen.new (cert_text cert.now) }
 {
     if pen.outcome.is_ok() {
@@ -190,8 +172,8 @@ fn put_after_block<S: Sink>(
     pen.decimal(condition as u64);
 }
 
-/// The name of a block, by its number in the monitor.
-pub(crate) fn put_block_name<S: Sink>(monitor: &Monitor, block: usize, pen: &mut Pen<'_, S>)
+/// Puts the name of a block, by its number in the monitor.
+pub fn put_block_name<S: Sink>(monitor: &Monitor, block: usize, pen: &mut Pen<'_, S>)
     ensures { Adds S.seen pen.old pen.new (block_name monitor.now block) }
 {
     if pen.outcome.is_ok() {

@@ -12,17 +12,6 @@ use Rattle.plan_counted.specs.declared.counted.Column.{Column}
 use Rattle.plan_counted.specs.Counted.{IsColumnBacked}
 use Rattle.report_tally.specs.inner.Lines.{IsShortColumn}
 
-pub within_from : {X : Type 0} (first : ℕ) (xs : List X) (i : ℕ) → i < length xs → i < length (enumerate_from first xs)
-within_from first xs i within = omega (arith, length-enumerate_from first xs)
-
-pub at_from : {X : Type 0} (first : ℕ) (xs : List X) (i number : ℕ) (x : X) → number ≡ first + i → i < length xs → x ≡ get_or xs i x
-    → both number x ≡ get_or (enumerate_from first xs) i (both number x)
-at_from {X} first xs i number x counted within is =
-    ap (λ (n : ℕ). both n x) counted ∙ ap (λ (y : X). both (first + i) y) is ∙ sym (get_or-enumerate_from first xs i (both number x) within)
-
-pub end_from : {X : Type 0} (first : ℕ) (xs : List X) (i : ℕ) → length xs ≤ i → take i (enumerate_from first xs) ≡ enumerate_from first xs
-end_from first xs i end = take_all i (enumerate_from first xs) (omega (arith, length-enumerate_from first xs))
-
 pub short_columns : (monitor : MonitorParts) (kept : List Candidate) (columns : List (Option Column)) → IsMonitor monitor
     → All (λ one. IsColumnBacked monitor kept one.0 one.1) (enumerate_from 1 columns) → All IsShortColumn columns
 short_columns monitor kept columns rule each = all_numbers (λ one. IsColumnBacked monitor kept one.0 one.1) IsShortColumn short 1 columns each

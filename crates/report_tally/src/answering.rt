@@ -16,8 +16,9 @@ ghost use Rattle.report_tally.specs.inner.Lines.{IsNoConditionFront, IsNoRestFro
 ghost use Rattle.report_tally.specs.inner.Lines.{answers_with, by_row};
 
 use super::owed::push_blocks;
-use super::writing::write_answer_head;
+use super::writing::put_answer_head;
 use base_io::GrowingSink;
+use base_pen::Pen;
 use lang_monitor::Monitor;
 use logic_outline::Outline;
 use machine_events::Plan;
@@ -309,6 +310,8 @@ fn answer_head(alloc: Global, monitor: &Monitor, question: Question) -> Result<V
         ≡ codes "proof " ++ question_text monitor.now question ++ codes ": ") }
 {
     let mut out = GrowingSink::new(alloc);
-    write_answer_head(monitor, question, &mut out).map_err(|_| AllocError)?;
+    let mut pen = Pen::new(&mut out);
+    put_answer_head(monitor, question, &mut pen);
+    pen.outcome.map_err(|_| AllocError)?;
     Ok(out.into_bytes())
 }

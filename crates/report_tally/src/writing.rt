@@ -4,6 +4,7 @@ ghost use Rattle.std.specs.Prelude.{◌≡◌, ◌≤◌, ◌++◌, All, codes, 
 ghost use Rattle.std.specs.List.{enumerate_from, flat_map};
 ghost use Rattle.lang_base.specs.Limits.{BLOCKS, CONDITIONS};
 ghost use Rattle.base_io.specs.Writing.{Wrote};
+ghost use Rattle.base_pen.specs.Putting.{Adds};
 ghost use Rattle.plan_count.specs.declared.question.Question.TheVariants.{First, Gives};
 ghost use Rattle.plan_counted.specs.Counted.{AreBacked, column_at};
 ghost use Rattle.report_questions.specs.QuestionText.{question_text};
@@ -14,15 +15,15 @@ ghost use Rattle.report_tally.specs.CountedTexts.{still_owed_text, told_text};
 ghost use Rattle.report_tally.specs.inner.Lines.{IsShortColumn};
 
 use super::owed::{counts_question, first_question, gives_question};
-use base_io::{Sink, SinkFailed, write_piece};
+use base_io::{Sink, SinkFailed};
+use base_pen::Pen;
 use lang_monitor::{Claim, Monitor};
-use logic_cert::{Cert, print_cert};
+use logic_cert::Cert;
 use plan_claims::{PlacedPlan, Proof};
 use plan_count::Question;
 use plan_counted::{Column, CountedPlan, Told};
-use report_proofs::write_proof;
-use report_questions::write_question;
-use report_text::write_plan;
+use report_proofs::{put_cert, put_plan, put_proof};
+use report_questions::put_question;
 
 /// Writes the report of a plan that was placed and then counted: the text of the counted plan, then
 /// a line for each proof of the placed one on whose claim the counted one rests too, and then one
@@ -39,43 +40,56 @@ pub fn write_counted_report<S: Sink>(
     ensures { Wrote (S.seen out.old) (S.seen out.new) result
         (counted_text monitor.now placed.now counted.now) }
 {
+    let mut pen = Pen::new(out);
+    put_counted_report(monitor, placed, counted, &mut pen);
+    pen.outcome
+}
+
+#[tactic(auto, using(base_pen::proofs::Putting::adds_three))]
+fn put_counted_report<S: Sink>(
+    monitor: &Monitor,
+    placed: &PlacedPlan,
+    counted: &CountedPlan,
+    pen: &mut Pen<'_, S>,
+)
+    requires { AreBacked monitor.now placed.now.plan counted.now.columns }
+    ensures { Adds S.seen pen.old pen.new (counted_text monitor.now placed.now counted.now) }
+{
     let _blocks = monitor.blocks();
     let columns = counted.columns.items();
-    write_plan(monitor, &counted.plan, out)?;
-    write_still_owed(monitor, columns, placed.proofs.items(), out)?;
-    write_columns(monitor, columns, out)
+    put_plan(monitor, &counted.plan, pen);
+    put_still_owed(monitor, columns, placed.proofs.items(), pen);
+    put_columns(monitor, columns, pen);
 }
 
 /// A line for each proof on whose claim the counted plan rests.
-fn write_still_owed<S: Sink>(
+fn put_still_owed<S: Sink>(
     monitor: &Monitor,
     columns: &[Option<Column>],
     proofs: &[Proof],
-    out: &mut S,
-) -> Result<(), SinkFailed>
-    ensures { Wrote (S.seen out.old) (S.seen out.new) result
+    pen: &mut Pen<'_, S>,
+)
+    ensures { Adds S.seen pen.old pen.new
         (flat_map (still_owed_text monitor.now columns.now) proofs.now) }
 {
     for proof in proofs {
-        write_if_still_owed(monitor, columns, proof, out)?;
+        put_if_still_owed(monitor, columns, proof, pen);
     }
-    Ok(())
 }
 
 /// The line of a proof, where the counted plan rests on its claim.
-fn write_if_still_owed<S: Sink>(
+#[tactic(auto, using(base_pen::proofs::Putting::adds_nothing))]
+fn put_if_still_owed<S: Sink>(
     monitor: &Monitor,
     columns: &[Option<Column>],
     proof: &Proof,
-    out: &mut S,
-) -> Result<(), SinkFailed>
-    ensures { Wrote (S.seen out.old) (S.seen out.new) result
+    pen: &mut Pen<'_, S>,
+)
+    ensures { Adds S.seen pen.old pen.new
         (still_owed_text monitor.now columns.now proof.now) }
 {
     if is_still_owed(columns, proof.claim) {
-        write_proof(monitor, proof.claim, &proof.cert, out)
-    } else {
-        Ok(())
+        put_proof(monitor, proof.claim, &proof.cert, pen);
     }
 }
 
@@ -145,124 +159,112 @@ fn has_column(column: &Option<Column>) -> bool
 // ---- the lines of questions
 
 /// A line for each certificate of what blocks have on counted conditions.
-fn write_columns<S: Sink>(
-    monitor: &Monitor,
-    columns: &[Option<Column>],
-    out: &mut S,
-) -> Result<(), SinkFailed>
+fn put_columns<S: Sink>(monitor: &Monitor, columns: &[Option<Column>], pen: &mut Pen<'_, S>)
     requires few { length columns.now ≤ CONDITIONS }
     requires short { All IsShortColumn columns.now }
-    ensures { Wrote (S.seen out.old) (S.seen out.new) result
+    ensures { Adds S.seen pen.old pen.new
         (columns_text monitor.now columns.now) }
 {
     for index in 0..columns.len() {
-        write_column(monitor, index as u32 + 1, &columns[index], out)?;
+        put_column(monitor, index as u32 + 1, &columns[index], pen);
     }
-    Ok(())
 }
 
 /// Those on a condition.
-fn write_column<S: Sink>(
+fn put_column<S: Sink>(
     monitor: &Monitor,
     condition: u32,
     column: &Option<Column>,
-    out: &mut S,
-) -> Result<(), SinkFailed>
+    pen: &mut Pen<'_, S>,
+)
     requires { IsShortColumn column.now }
-    ensures { Wrote (S.seen out.old) (S.seen out.new) result
+    ensures { Adds S.seen pen.old pen.new
         (column_text monitor.now condition column.now) }
 {
     match column {
-        None => Ok(()),
-        Some(column) => write_each(monitor, condition, column.row, column.told.items(), out),
+        None => pen.put(b""),
+        Some(column) => put_each(monitor, condition, column.row, column.told.items(), pen),
     }
 }
 
 /// Those of what each block has on a condition.
-fn write_each<S: Sink>(
+fn put_each<S: Sink>(
     monitor: &Monitor,
     condition: u32,
     row: u32,
     column: &[Told],
-    out: &mut S,
-) -> Result<(), SinkFailed>
+    pen: &mut Pen<'_, S>,
+)
     requires { length column.now ≤ BLOCKS }
-    ensures { Wrote (S.seen out.old) (S.seen out.new) result
+    ensures { Adds S.seen pen.old pen.new
         (flat_map (λ one. told_text monitor.now condition row one.0 one.1)
         (enumerate_from 0 column.now)) }
 {
     for index in 0..column.len() {
-        write_told(monitor, condition, row, index as u32, &column[index], out)?;
+        put_told(monitor, condition, row, index as u32, &column[index], pen);
     }
-    Ok(())
 }
 
 /// Those of what a block has on a condition.
-fn write_told<S: Sink>(
+fn put_told<S: Sink>(
     monitor: &Monitor,
     condition: u32,
     row: u32,
     block: u32,
     told: &Told,
-    out: &mut S,
-) -> Result<(), SinkFailed>
-    ensures { Wrote (S.seen out.old) (S.seen out.new) result
+    pen: &mut Pen<'_, S>,
+)
+    ensures { Adds S.seen pen.old pen.new
         (told_text monitor.now condition row block told.now) }
 {
     match told {
         Told::Nothing { counts } => {
-            write_answer(monitor, counts_question(condition, row, block), counts, out)
+            put_answer(monitor, counts_question(condition, row, block), counts, pen)
         }
         Told::Signal { gives, first } => {
-            write_signal(monitor, condition, row, block, gives, first, out)
+            put_signal(monitor, condition, row, block, gives, first, pen)
         }
-        Told::Broadcast => Ok(()),
+        Told::Broadcast => pen.put(b""),
     }
 }
 
 /// Both lines of a signal.
-fn write_signal<S: Sink>(
+#[tactic(auto, using(base_pen::proofs::Putting::adds_two))]
+fn put_signal<S: Sink>(
     monitor: &Monitor,
     condition: u32,
     row: u32,
     block: u32,
     gives: &Cert,
     first: &Cert,
-    out: &mut S,
-) -> Result<(), SinkFailed>
-    ensures { Wrote (S.seen out.old) (S.seen out.new) result
+    pen: &mut Pen<'_, S>,
+)
+    ensures { Adds S.seen pen.old pen.new
         (answer_text monitor.now (Gives condition row block) gives.now
         ++ answer_text monitor.now (First condition row block) first.now) }
 {
-    write_answer(monitor, gives_question(condition, row, block), gives, out)?;
-    write_answer(monitor, first_question(condition, row, block), first, out)
+    put_answer(monitor, gives_question(condition, row, block), gives, pen);
+    put_answer(monitor, first_question(condition, row, block), first, pen);
 }
 
 /// `proof counts 2 put: clash 0 1` and a line feed.
-fn write_answer<S: Sink>(
-    monitor: &Monitor,
-    question: Question,
-    cert: &Cert,
-    out: &mut S,
-) -> Result<(), SinkFailed>
-    ensures { Wrote (S.seen out.old) (S.seen out.new) result
+#[tactic(auto, using(base_pen::proofs::Putting::adds_three))]
+fn put_answer<S: Sink>(monitor: &Monitor, question: Question, cert: &Cert, pen: &mut Pen<'_, S>)
+    ensures { Adds S.seen pen.old pen.new
         (answer_text monitor.now question cert.now) }
 {
-    write_answer_head(monitor, question, out)?;
-    print_cert(cert, out)?;
-    write_piece(b"\n", out)
+    put_answer_head(monitor, question, pen);
+    put_cert(cert, pen);
+    pen.put(b"\n");
 }
 
 /// `proof counts 2 put: `
-pub(crate) fn write_answer_head<S: Sink>(
-    monitor: &Monitor,
-    question: Question,
-    out: &mut S,
-) -> Result<(), SinkFailed>
-    ensures { Wrote (S.seen out.old) (S.seen out.new) result
+#[tactic(auto, using(base_pen::proofs::Putting::adds_three))]
+pub(crate) fn put_answer_head<S: Sink>(monitor: &Monitor, question: Question, pen: &mut Pen<'_, S>)
+    ensures { Adds S.seen pen.old pen.new
         (codes "proof " ++ question_text monitor.now question ++ codes ": ") }
 {
-    write_piece(b"proof ", out)?;
-    write_question(monitor, question, out)?;
-    write_piece(b": ", out)
+    pen.put(b"proof ");
+    put_question(monitor, question, pen);
+    pen.put(b": ");
 }

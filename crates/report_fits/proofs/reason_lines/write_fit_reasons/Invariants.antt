@@ -1,9 +1,0 @@
-use Rattle.std.proofs.Common.{Ok, take}
-use Rattle.std.specs.List.{flat_map, enumerate_from}
-use Rattle.base_io.specs.Writing.{Wrote}
-use Rattle.report_fits.specs.FitReasonTexts.{fit_reason_text}
-use Rattle.report_fits.proofs.reason_lines.write_fit_reasons.Given as goal
-
-abbrev pub invariant-loop-index : goal.invariant-loop-index
-invariant-loop-index g l =
-    Wrote (g.S.Sink.seen l.initial.out) (g.S.Sink.seen l.out) (Ok tt) (flat_map (λ one. fit_reason_text l.tree l.monitor one.0 one.1) (take l.index (enumerate_from 0 l.found)))

@@ -1,9 +1,0 @@
-use Rattle.std.proofs.Common.{Ok, take}
-use Rattle.std.specs.List.{flat_map, enumerate_from}
-use Rattle.base_io.specs.Writing.{Wrote}
-use Rattle.report_tally.specs.CountedTexts.{column_text}
-use Rattle.report_tally.proofs.writing.write_columns.Given as goal
-
-abbrev pub invariant-loop-index : goal.invariant-loop-index
-invariant-loop-index g l =
-    Wrote (g.S.Sink.seen l.initial.out) (g.S.Sink.seen l.out) (Ok tt) (flat_map (λ one. column_text l.monitor one.0 one.1) (take l.index (enumerate_from 1 l.columns)))
