@@ -45,7 +45,6 @@ pub fn write_counted_report<S: Sink>(
     pen.outcome
 }
 
-#[tactic(auto, using(base_pen::proofs::Putting::adds_three))]
 fn put_counted_report<S: Sink>(
     monitor: &Monitor,
     placed: &PlacedPlan,
@@ -229,7 +228,6 @@ fn put_told<S: Sink>(
 }
 
 /// Both lines of a signal.
-#[tactic(auto, using(base_pen::proofs::Putting::adds_two))]
 fn put_signal<S: Sink>(
     monitor: &Monitor,
     condition: u32,
