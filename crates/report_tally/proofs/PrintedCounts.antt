@@ -37,7 +37,7 @@ use Rattle.report_verdict.proofs.Pairs.{all_at}
 use Rattle.report_proofs.proofs.SmallReports.{claims_are}
 use Rattle.report_tally.specs.declared.report.CountedReport.{CountedReport}
 use Rattle.report_tally.specs.CountedReadings.{IsCountedRead, IsReadableReport, IsTypedRow}
-use Rattle.report_tally.specs.CountedReports.{answers_of, is_owed, owed_claims, owed_proofs, owed_questions}
+use Rattle.report_tally.specs.CountedReports.{answers_of, is_owed, owed_proofs, owed_questions}
 use Rattle.report_tally.specs.CountedTexts.{HasTypedColumn, IsCountingOf, IsTypedTold, column_certs, column_row, counted_report_of, counted_text, is_still_owed, still_owed_proofs, told_certs}
 use Rattle.report_tally.specs.CountedVerdicts.{IsAnswer, IsAnswered, IsCountedVerdict, IsUnanswered}
 use Rattle.report_tally.specs.EasyCountings.{IsEasyCounting, IsNoOpenClaim, IsNoOpenQuestion, OwesNothingOpen}
