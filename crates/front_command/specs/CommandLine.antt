@@ -186,22 +186,51 @@ name_of (explain monitor count fits) = Some (codes "explain")
 name_of (emit monitor) = Some (codes "emit")
 name_of version = None
 
--- the values are those of the command, as many as it has
+-- what the other file of a command is, beside that of a monitor
+pub data Other : Type 0 where
+  -- clients of the monitor
+  as_clients : Other
+  -- a report of it
+  as_report : Other
+  -- a plan of it, whose signals may be counted or not
+  as_plan : Bool → Other
+
+-- the files of a command: none, that of a monitor, or that and another one
+pub data CommandFiles : Type 0 where
+  no_files : CommandFiles
+  one_file : List ℕ → CommandFiles
+  two_files : Other → List ℕ → List ℕ → CommandFiles
+
+-- the files that a command reads
+abbrev pub reads : Command → CommandFiles
+reads (check monitor) = one_file monitor
+reads (turns monitor clients) = two_files as_clients monitor clients
+reads (compile monitor choice) = one_file monitor
+reads (simulate monitor clients schedule choice) = two_files as_clients monitor clients
+reads (run monitor clients workers choice) = two_files as_clients monitor clients
+reads (stress number workers) = no_files
+reads (report monitor count fits) = one_file monitor
+reads (recheck monitor report_file) = two_files as_report monitor report_file
+reads (block monitor clients choice) = two_files as_clients monitor clients
+reads (audit monitor plan_file count) = two_files (as_plan count) monitor plan_file
+reads (explain monitor count fits) = one_file monitor
+reads (emit monitor) = one_file monitor
+reads version = no_files
+
+-- their names, in order
+abbrev pub names_in : CommandFiles → List (List ℕ)
+names_in no_files = []
+names_in (one_file monitor) = monitor ∷ []
+names_in (two_files other monitor file) = monitor ∷ file ∷ []
+
+abbrev pub files_of : Command → List (List ℕ)
+files_of command = names_in (reads command)
+
+-- the values are the names of the command's files, and of `stress` its number
 abbrev pub HasValues : List Text → Command → Type 0
-HasValues values (check monitor) = values ≡ monitor ∷ []
-HasValues values (turns monitor clients) = values ≡ monitor ∷ clients ∷ []
-HasValues values (compile monitor choice) = values ≡ monitor ∷ []
-HasValues values (simulate monitor clients schedule choice) = values ≡ monitor ∷ clients ∷ []
-HasValues values (run monitor clients workers choice) = values ≡ monitor ∷ clients ∷ []
 HasValues values (stress number workers) =
     (word : Text) × (values ≡ word ∷ []) × IsNumber GREATEST_UNSIGNED word number
-HasValues values (report monitor count fits) = values ≡ monitor ∷ []
-HasValues values (recheck monitor report_file) = values ≡ monitor ∷ report_file ∷ []
-HasValues values (block monitor clients choice) = values ≡ monitor ∷ clients ∷ []
-HasValues values (audit monitor plan_file count) = values ≡ monitor ∷ plan_file ∷ []
-HasValues values (explain monitor count fits) = values ≡ monitor ∷ []
-HasValues values (emit monitor) = values ≡ monitor ∷ []
-HasValues values version = values ≡ []
+HasValues values command = values ≡ files_of command
 
 abbrev pub HasNoSchedule : Given → Type 0
 HasNoSchedule given = (given.seed ≡ None) × (given.spurious ≡ None)
@@ -268,22 +297,6 @@ Takes words command = (given : Given) × IsGiven words given × Asks given comma
 -- the words ask for no command
 abbrev pub TakesNone : List (List ℕ) → Type 0
 TakesNone words = (command : Command) → Takes words command → ⊥
-
--- the files that a command reads, in order
-abbrev pub files_of : Command → List (List ℕ)
-files_of (check monitor) = monitor ∷ []
-files_of (turns monitor clients) = monitor ∷ clients ∷ []
-files_of (compile monitor choice) = monitor ∷ []
-files_of (simulate monitor clients schedule choice) = monitor ∷ clients ∷ []
-files_of (run monitor clients workers choice) = monitor ∷ clients ∷ []
-files_of (stress number workers) = []
-files_of (report monitor count fits) = monitor ∷ []
-files_of (recheck monitor report_file) = monitor ∷ report_file ∷ []
-files_of (block monitor clients choice) = monitor ∷ clients ∷ []
-files_of (audit monitor plan_file count) = monitor ∷ plan_file ∷ []
-files_of (explain monitor count fits) = monitor ∷ []
-files_of (emit monitor) = monitor ∷ []
-files_of version = []
 
 -- each file that the words name is one that may be read
 abbrev pub MayReadFiles : (List ℕ → Type 0) → List (List ℕ) → Type 0
