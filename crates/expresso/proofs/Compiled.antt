@@ -1,5 +1,5 @@
 -- How `check` and `compile` end.
-use Rattle.std.proofs.Common.{◌≡◌, ℕ, true, List, [], refl}
+use Rattle.std.proofs.Common.{◌≡◌, ℕ, true, List, refl}
 use Rattle.base_io.specs.Outside.{FilesSeen, SinkSeen}
 use Rattle.lang_tree.specs.declared.tree.MonitorTree.{MonitorTree}
 use Rattle.lang_printer.specs.Canonical.{tree_text}
@@ -13,15 +13,8 @@ use Rattle.front_command.specs.CommandLine.{check, compile}
 use Rattle.expresso_answers.specs.Placements.{IsChosen}
 use Rattle.expresso_answers.specs.Answers.{HoldsMonitor}
 use Rattle.expresso_answers.specs.Ending.{CommandEnds, IsWritten}
-use Rattle.expresso_answers.specs.Input.{WorksOn}
 use Rattle.expresso_answers.proofs.Ending.{work_ended}
 use Rattle.expresso_answers.proofs.OneFile.{no_rejection}
-
-pub check_works : (file : List ℕ) → WorksOn (check file) file []
-check_works file = record { files = refl; refused = λ held text is. is; accepted = λ held is. is }
-
-pub compile_works : (file : List ℕ) (choice : PlanChoice) → WorksOn (compile file choice) file []
-compile_works file choice = record { files = refl; refused = λ held text is. is; accepted = λ held is. is }
 
 pub check_done : (file : List ℕ) (tree : MonitorTree) (monitor : MonitorParts) (files files_now : FilesSeen) (result : Status) (out out_now : SinkSeen)
     → HoldsMonitor files.held file tree monitor → files_now.faults ≡ files.faults → IsWritten statuses.Done (tree_text tree) result out out_now → CommandEnds (check file) files files_now result out out_now

@@ -1,5 +1,5 @@
 -- How `emit` ends.
-use Rattle.std.proofs.Common.{◌≡◌, ℕ, Bool, true, false, List, [], refl}
+use Rattle.std.proofs.Common.{◌≡◌, ℕ, Bool, true, false, List, refl}
 use Rattle.base_io.specs.Outside.{FilesSeen, SinkSeen}
 use Rattle.lang_tree.specs.declared.tree.MonitorTree.{MonitorTree}
 use Rattle.lang_monitor.specs.MonitorParts.{MonitorParts}
@@ -19,12 +19,8 @@ use Rattle.expresso_answers.specs.MonitorFiles.{IsAccepted}
 use Rattle.expresso_answers.specs.PrintedPrograms.{BodiesStep, IsAsPromised, MomentsStayShort, NumbersStayWide, StartIsShort, TestsAreShared, TestsHold, ThreadsLoseNone, WholeBlocksNeverOverflow, WholeCallsNeverOverflow}
 use Rattle.expresso_answers.specs.Answers.{HoldsMonitor}
 use Rattle.expresso_answers.specs.Ending.{CommandEnds, IsWritten}
-use Rattle.expresso_answers.specs.Input.{WorksOn}
 use Rattle.expresso_answers.proofs.Ending.{work_ended}
 use Rattle.expresso_answers.proofs.OneFile.{no_rejection}
-
-pub emit_works : (file : List ℕ) → WorksOn (emit file) file []
-emit_works file = record { files = refl; refused = λ held text is. is; accepted = λ held is. is }
 
 -- under a counted plan, threads lose no wake-up by the printed code
 threads_lose_none : CountedCodeLosesNone → (monitor : MonitorParts) (plan : Plan) → IsChosen Counted monitor plan → ThreadsLoseNone monitor plan

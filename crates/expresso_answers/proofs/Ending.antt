@@ -1,12 +1,14 @@
 -- How a command ends, by what was written last.
 use Rattle.std.proofs.Common.{◌≡◌, ℕ, Bool, true, false, List, sym, subst, inl, inr, arith}
+use Rattle.std.specs.Prelude.{Any}
 use Rattle.base_io.specs.Outside.{FilesSeen, SinkSeen, Rises}
 use Rattle.report_text.specs.FaultText.{unread_text}
 use Rattle.expresso_answers.specs.declared.status.Status.{Status}
 use Rattle.expresso_answers.specs.declared.status.Status.TheVariants as statuses
-use Rattle.front_command.specs.CommandLine.{Command}
+use Rattle.front_command.specs.CommandLine.{Command, CommandFiles, names_in, reads}
 use Rattle.expresso_answers.specs.Answers.{AcceptsFiles, RejectsFiles, IsRefusedText, IsUnreadText, IsWorkedOrMemory, IsRefusedOrMemory, IsStoppedOrMemory, IsUnreadOrMemory}
 use Rattle.expresso_answers.specs.Ending.{CommandEnds, IsCommandText, IsUnread, IsWritten, ended}
+use Rattle.expresso_answers.specs.Input.{ReadersEnd}
 
 -- a status that a text came to, where the sink took it whole
 pub whole_status : (P : Status → Type 0) (status : Status) (text : List ℕ) (result : Status) (out out_now : SinkSeen) → P status → IsWritten status text result out out_now
@@ -26,7 +28,7 @@ module _ (command : Command) (files files_now : FilesSeen) (text : List ℕ) (re
   }
 
   -- a file isn't accepted
-  pub refused_ended : IsRefusedText files.held command text → (AcceptsFiles files.held command → ⊥) → files_now.faults ≡ files.faults → IsWritten statuses.Refused text result out out_now
+  pub refused_ended : IsRefusedText files.held (reads command) text → (AcceptsFiles files.held (reads command) → ⊥) → files_now.faults ≡ files.faults → IsWritten statuses.Refused text result out out_now
       → CommandEnds command files files_now result out out_now
   refused_ended line none steady written = record {
     answer = inl (statuses.Refused, text, line, written);
@@ -41,7 +43,7 @@ module _ (command : Command) (files files_now : FilesSeen) (text : List ℕ) (re
   is_run false = tt
 
   -- the work was done
-  pub work_ended : (finished : Bool) → IsCommandText command files files_now (ended finished) text → (RejectsFiles files.held command → ⊥) → files_now.faults ≡ files.faults
+  pub work_ended : (finished : Bool) → IsCommandText command files files_now (ended finished) text → (RejectsFiles files.held (reads command) → ⊥) → files_now.faults ≡ files.faults
       → IsWritten (ended finished) text result out out_now → CommandEnds command files files_now result out out_now
   work_ended finished is none steady written = record {
     answer = inl (ended finished, text, is, written);
@@ -67,3 +69,21 @@ pub no_bytes_ended : (command : Command) (file : List ℕ) (files files_now : Fi
     → IsUnread file files files_now result out out_now → CommandEnds command files files_now result out out_now
 no_bytes_ended command file files files_now result out out_now line (inl (is, silent)) = memory_ended command files files_now result out out_now is silent
 no_bytes_ended command file files files_now result out out_now line (inr (risen, written)) = unread_ended command files files_now (unread_text file) result out out_now line risen written
+
+-- ---- any command that reads these files
+
+abbrev pub IsNamed : List ℕ → CommandFiles → Type 0
+IsNamed file read = Any (λ name. unread_text file ≡ unread_text name) (names_in read)
+
+module _ (read : CommandFiles) (files files_now : FilesSeen) (result : Status) (out out_now : SinkSeen) where
+  pub readers_memory : result ≡ statuses.OutOfMemory → out_now ≡ out → ReadersEnd read files files_now result out out_now
+  readers_memory is silent command same = memory_ended command files files_now result out out_now is silent
+
+  pub readers_unread : (file : List ℕ) → IsNamed file read → IsUnread file files files_now result out out_now → ReadersEnd read files files_now result out out_now
+  readers_unread file named unread command same = no_bytes_ended command file files files_now result out out_now (subst (IsNamed file) (sym same) named) unread
+
+  pub readers_refused : (text : List ℕ) → IsRefusedText files.held read text → (AcceptsFiles files.held read → ⊥) → files_now.faults ≡ files.faults → IsWritten statuses.Refused text result out out_now
+      → ReadersEnd read files files_now result out out_now
+  readers_refused text line none steady written command same =
+      refused_ended command files files_now text result out out_now (subst (λ (some : CommandFiles). IsRefusedText files.held some text) (sym same) line)
+      (λ accepts. none (subst (AcceptsFiles files.held) same accepts)) steady written

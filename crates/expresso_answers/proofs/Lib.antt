@@ -2,7 +2,7 @@ pub mod FirstFaults
 pub mod OneMonitor
 pub mod OneClientList
 pub mod Telling
-pub mod RunFiles
+pub mod OtherFile
 pub mod Ending
 pub mod Outcomes
 pub mod OneFile

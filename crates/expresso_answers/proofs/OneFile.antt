@@ -1,35 +1,47 @@
--- How a command that works on the monitor of one file ends.
-use Rattle.std.proofs.Common.{◌≡◌, ℕ, List, [], Option, Result, Ok, Err, refl, sym, subst, ◌∙◌, arith, inl, inr}
-use Rattle.std.specs.Prelude.{Any, IfErr, IfOk}
+-- How a command ends by the bytes of its first file, a monitor's.
+use Rattle.std.proofs.Common.{◌≡◌, ℕ, List, Option, Result, Ok, Err, refl, sym, subst, ◌∙◌, arith, inl, inr}
+use Rattle.std.specs.Prelude.{IfErr, IfOk}
 use Rattle.base_io.specs.Outside.{FilesSeen, SinkSeen, IsRead}
 use Rattle.lang_tree.specs.declared.tree.MonitorTree.{MonitorTree}
 use Rattle.lang_syntax.specs.Grammar.{IsMonitorFile}
 use Rattle.lang_rules.specs.Rules.{faults_of}
 use Rattle.lang_monitor.specs.MonitorParts.{MonitorParts}
-use Rattle.report_text.specs.FaultText.{unread_text}
 use Rattle.expresso_answers.specs.declared.status.Status.{Status}
 use Rattle.expresso_answers.specs.declared.status.Status.TheVariants as statuses
 use Rattle.expresso_answers.specs.declared.monitor_file.MonitorFile.{MonitorFile}
-use Rattle.front_command.specs.CommandLine.{Command}
+use Rattle.front_command.specs.CommandLine.{CommandFiles, Other, one_file, two_files}
 use Rattle.expresso_answers.specs.MonitorFiles.{IsAccepted, IsFirstOfMonitor}
 use Rattle.expresso_answers.specs.FirstFaults.{IsRefusalLine}
-use Rattle.expresso_answers.specs.Answers.{AcceptsMonitor, HoldsBytes, HoldsMonitor, IsUnreadText, RejectsMonitor}
+use Rattle.expresso_answers.specs.Answers.{AcceptsFiles, AcceptsMonitor, HoldsBytes, HoldsMonitor, IsMonitorRefusal, IsRefusedText, RejectsMonitor}
 use Rattle.expresso_answers.specs.Ending.{IsTurnedAway, IsUnread}
-use Rattle.expresso_answers.specs.Input.{CommandsEndOn, HoldsText, WorksOn}
+use Rattle.expresso_answers.specs.Input.{HoldsText, ReadersEnd}
 use Rattle.expresso_answers.proofs.Telling.{told, is_told, accepted_told, line_told, holds_same, read_short}
 use Rattle.expresso_answers.proofs.FirstFaults.{OneSpelling, NoSpelling, OneTree, no_line}
 use Rattle.expresso_answers.proofs.Outcomes.{written_since}
-use Rattle.expresso_answers.proofs.Ending.{memory_ended, no_bytes_ended, refused_ended}
+use Rattle.expresso_answers.proofs.Ending.{IsNamed, readers_memory, readers_refused, readers_unread}
+
+-- ---- the files of a command
+
+-- this is the first of them, the monitor's
+pub record Begins (read : CommandFiles) (file : List ℕ) : Type 0 where
+  pub named : IsNamed file read
+  pub refused : (held : List ℕ → Option (List ℕ)) (text : List ℕ) → IsMonitorRefusal held file text → IsRefusedText held read text
+  pub accepted : (held : List ℕ → Option (List ℕ)) → AcceptsFiles held read → AcceptsMonitor held file
+
+pub alone : (file : List ℕ) → Begins (one_file file) file
+alone file = record { named = (0, file, omega arith, refl, refl); refused = λ held text line. line; accepted = λ held accepts. accepts }
+
+pub beside : (other : Other) (file name : List ℕ) → Begins (two_files other file name) file
+beside other file name = record { named = (0, file, omega arith, refl, refl); refused = λ held text line. inl line; accepted = λ held accepts. monitor_accepted held accepts }
+  where
+    monitor_accepted : (held : List ℕ → Option (List ℕ)) → AcceptsFiles held (two_files other file name) → AcceptsMonitor held file
+    monitor_accepted held (bytes, more, tree, monitor, tells, also, accepted, must) = (bytes, tree, monitor, tells, accepted)
 
 -- ---- the file has no bytes
 
-names_file : (command : Command) (file : List ℕ) (others : List (List ℕ)) → WorksOn command file others → IsUnreadText command (unread_text file)
-names_file command file others works = subst (λ (names : List (List ℕ)). Any (λ name. unread_text file ≡ unread_text name) names) (sym works.files) (0, file, omega arith, refl, refl)
-
-pub file_unread : (file : List ℕ) (others : List (List ℕ)) (files files_now : FilesSeen) (result : Status) (out out_now : SinkSeen) → IsUnread file files files_now result out out_now
-    → CommandsEndOn file others files files_now result out out_now
-file_unread file others files files_now result out out_now unread command works =
-    no_bytes_ended command file files files_now result out out_now (names_file command file others works) unread
+pub file_unread : (read : CommandFiles) (file : List ℕ) → Begins read file → (files files_now : FilesSeen) (result : Status) (out out_now : SinkSeen) → IsUnread file files files_now result out out_now
+    → ReadersEnd read files files_now result out out_now
+file_unread read file begins files files_now result out out_now unread = readers_unread read files files_now result out out_now file begins.named unread
 
 -- ---- the bytes that were read are refused
 
@@ -40,24 +52,24 @@ no_line_of one_spelling no_spelling one_tree held file bytes text read line (all
     no_line IsMonitorFile faults_of one_spelling no_spelling one_tree all accepted.tokens tree accepted.spelled accepted.derived accepted.unbroken file text accepted.short
     (subst (λ (b : List ℕ). IsRefusalLine (IsFirstOfMonitor b) file b text) same (line_told IsMonitorFile faults_of (held file) file bytes text read line))
 
-pub file_refused : OneSpelling → NoSpelling → OneTree → (others : List (List ℕ)) (file bytes slice : List ℕ) (files files_now : FilesSeen) (result : Status) (out mid out_now : SinkSeen)
+pub file_refused : OneSpelling → NoSpelling → OneTree → (read : CommandFiles) (file : List ℕ) → Begins read file → (bytes slice : List ℕ) (files files_now : FilesSeen) (result : Status) (out mid out_now : SinkSeen)
     → slice ≡ bytes → IsRead (files.held file) 65536 bytes → files_now.faults ≡ files.faults → mid ≡ out
-    → IsTurnedAway (IsRefusalLine (IsFirstOfMonitor slice) file slice) result mid out_now → CommandsEndOn file others files files_now result out out_now
-file_refused one_spelling no_spelling one_tree others file bytes slice files files_now result out mid out_now same read steady silent (inl (memory, nothing)) command works =
-    memory_ended command files files_now result out out_now memory (nothing ∙ silent)
-file_refused one_spelling no_spelling one_tree others file bytes slice files files_now result out mid out_now same read steady silent (inr (text, line, written)) command works =
-    let here : IsRead (files.held file) 65536 slice = subst (λ (b : List ℕ). IsRead (files.held file) 65536 b) (sym same) read in
-    refused_ended command files files_now text result out out_now
-    (works.refused files.held text (record { bytes = told (files.held file) slice; told = is_told (files.held file) slice; line = line_told IsMonitorFile faults_of (files.held file) file slice text here line }))
-    (λ accepts. no_line_of one_spelling no_spelling one_tree files.held file slice text here line (works.accepted files.held accepts)) steady
+    → IsTurnedAway (IsRefusalLine (IsFirstOfMonitor slice) file slice) result mid out_now → ReadersEnd read files files_now result out out_now
+file_refused one_spelling no_spelling one_tree read file begins bytes slice files files_now result out mid out_now same was_read steady silent (inl (memory, nothing)) =
+    readers_memory read files files_now result out out_now memory (nothing ∙ silent)
+file_refused one_spelling no_spelling one_tree read file begins bytes slice files files_now result out mid out_now same was_read steady silent (inr (text, line, written)) =
+    let here : IsRead (files.held file) 65536 slice = subst (λ (b : List ℕ). IsRead (files.held file) 65536 b) (sym same) was_read in
+    readers_refused read files files_now result out out_now text
+    (begins.refused files.held text (record { bytes = told (files.held file) slice; told = is_told (files.held file) slice; line = line_told IsMonitorFile faults_of (files.held file) file slice text here line }))
+    (λ accepts. no_line_of one_spelling no_spelling one_tree files.held file slice text here line (begins.accepted files.held accepts)) steady
     (written_since statuses.Refused text result out mid out_now silent written)
 
 pub file_judged : OneSpelling → NoSpelling → OneTree → (file bytes slice : List ℕ) (files files_now : FilesSeen) (result : Result MonitorFile Status) (out mid out_now : SinkSeen)
     → slice ≡ bytes → IsRead (files.held file) 65536 bytes → files_now.faults ≡ files.faults → mid ≡ out
-    → IfErr result (λ status. IsTurnedAway (IsRefusalLine (IsFirstOfMonitor slice) file slice) status mid out_now) → IfErr result (λ status. CommandsEndOn file [] files files_now status out out_now)
-file_judged one_spelling no_spelling one_tree file bytes slice files files_now (Ok found) out mid out_now same read steady silent away = tt
-file_judged one_spelling no_spelling one_tree file bytes slice files files_now (Err status) out mid out_now same read steady silent away =
-    file_refused one_spelling no_spelling one_tree [] file bytes slice files files_now status out mid out_now same read steady silent away
+    → IfErr result (λ status. IsTurnedAway (IsRefusalLine (IsFirstOfMonitor slice) file slice) status mid out_now) → IfErr result (λ status. ReadersEnd (one_file file) files files_now status out out_now)
+file_judged one_spelling no_spelling one_tree file bytes slice files files_now (Ok found) out mid out_now same was_read steady silent away = tt
+file_judged one_spelling no_spelling one_tree file bytes slice files files_now (Err status) out mid out_now same was_read steady silent away =
+    file_refused one_spelling no_spelling one_tree (one_file file) file (alone file) bytes slice files files_now status out mid out_now same was_read steady silent away
 
 -- ---- the bytes that were read are accepted
 

@@ -5,13 +5,11 @@ use Rattle.std.specs.Prelude.{IfSome}
 use Rattle.base_io.specs.Outside.{IsRead}
 use Rattle.lang_tree.specs.declared.tree.MonitorTree.{MonitorTree}
 use Rattle.lang_monitor.specs.MonitorParts.{MonitorParts}
-use Rattle.machine_implicit.specs.declared.script.Client.{Client}
 use Rattle.lang_base.specs.declared.source_fault.SourceFault.{SourceFault}
 use Rattle.lang_syntax.specs.Grammar.{Rule}
 use Rattle.expresso_answers.specs.FirstFaults.{IsFirstFault, IsRefusalLine}
 use Rattle.expresso_answers.specs.MonitorFiles.{IsAccepted}
 use Rattle.expresso_answers.specs.Answers.{HoldsBytes}
-use Rattle.expresso_answers.specs.ClientFiles.{AreAccepted}
 
 -- the bytes that are held, where they are told, or else those that were read
 pub told : Option (List ℕ) → List ℕ → List ℕ
@@ -37,9 +35,6 @@ held_long most (Some all) bytes read long = omega (arith, ap length read, length
 
 pub accepted_told : (o : Option (List ℕ)) (bytes : List ℕ) (tree : MonitorTree) (monitor : MonitorParts) → IsRead o 65536 bytes → IsAccepted bytes tree monitor → IsAccepted (told o bytes) tree monitor
 accepted_told o bytes tree monitor read accepted = subst (λ (b : List ℕ). IsAccepted b tree monitor) (read_short 65536 o bytes read accepted.short) accepted
-
-pub scripts_told : (o : Option (List ℕ)) (bytes : List ℕ) (monitor : MonitorParts) (clients : List Client) → IsRead o 65536 bytes → AreAccepted bytes monitor clients → AreAccepted (told o bytes) monitor clients
-scripts_told o bytes monitor clients read accepted = subst (λ (b : List ℕ). AreAccepted b monitor clients) (read_short 65536 o bytes read accepted.short) accepted
 
 -- ---- the line that refuses a file
 

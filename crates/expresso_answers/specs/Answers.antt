@@ -28,6 +28,8 @@ use Rattle.front_command.specs.declared.plan_choice.PlanChoice.TheVariants.{Coun
 use Rattle.front_command.specs.declared.schedule.Schedule.{Schedule}
 use Rattle.front_command.specs.CommandLine.{Command, check, turns, compile, simulate, run, stress}
 use Rattle.front_command.specs.CommandLine.{report, recheck, block, audit, explain, emit, version}
+use Rattle.front_command.specs.CommandLine.{CommandFiles, no_files, one_file, two_files, reads}
+use Rattle.front_command.specs.CommandLine.{Other, as_clients, as_report, as_plan}
 use Rattle.front_command.specs.CommandLine.{Takes, TakesNone, files_of}
 use Rattle.machine_stress.specs.LargeInput.{buffer_of, capacity_of, producers_and_consumers}
 use Rattle.expresso_answers.specs.Placements.{IsChosen, IsCounting, IsPlacement, table_of}
@@ -216,26 +218,16 @@ IsReportTextBy held true true file text =
     (front : List ℕ) × (is : IsCountedReportText held file front)
     × HasFits is.monitor is.counted.plan.kept front text
 
--- the line that accepts the report of the second file, of the monitor of the first
-pub record IsRecheckText (held : List ℕ
-    → Option (List ℕ)) (monitor_file report_file text : List ℕ) : Type 0 where
+-- a line on the other file, by its bytes and the monitor that the first file holds
+pub record IsOtherText (held : List ℕ
+    → Option (List ℕ)) (IsLine : MonitorTree → MonitorParts → List ℕ → List ℕ → Type 0)
+    (monitor_file other_file text : List ℕ) : Type 0 where
   pub tree : MonitorTree
   pub monitor : MonitorParts
   pub bytes : List ℕ
   pub holds : HoldsMonitor held monitor_file tree monitor
-  pub told : HoldsBytes held report_file bytes
-  pub line : IsAcceptanceLine monitor bytes text
-
--- the line that says that the plan of the second file is lawful for the monitor of the first, where
--- signals may be counted or not
-pub record IsAuditText (held : List ℕ
-    → Option (List ℕ)) (count : Bool) (monitor_file plan_file text : List ℕ) : Type 0 where
-  pub tree : MonitorTree
-  pub monitor : MonitorParts
-  pub bytes : List ℕ
-  pub holds : HoldsMonitor held monitor_file tree monitor
-  pub told : HoldsBytes held plan_file bytes
-  pub line : IsLawfulLine count monitor bytes text
+  pub told : HoldsBytes held other_file bytes
+  pub line : IsLine tree monitor bytes text
 
 -- the text of a plan that the monitor of the file is compiled to, and why each thing stands in it
 -- that costs something
@@ -315,11 +307,12 @@ IsDoneText held (run monitor clients workers choice) text =
     IsFinishedRunText held monitor clients choice text
 IsDoneText held (stress number workers) text = IsStressText number text
 IsDoneText held (report file count fits) text = IsReportTextBy held count fits file text
-IsDoneText held (recheck monitor report_file) text = IsRecheckText held monitor report_file text
+IsDoneText held (recheck monitor report_file) text =
+    IsOtherText held (λ tree. IsAcceptanceLine) monitor report_file text
 IsDoneText held (block monitor clients choice) text =
     IsFinishedRunText held monitor clients choice text
 IsDoneText held (audit monitor plan_file count) text =
-    IsAuditText held count monitor plan_file text
+    IsOtherText held (λ tree. IsLawfulLine count) monitor plan_file text
 IsDoneText held (explain file count fits) text = IsExplainTextBy held count fits file text
 IsDoneText held (emit file) text = IsEmitText held file text
 IsDoneText held version text = text ≡ version_text
@@ -327,26 +320,18 @@ IsDoneText held version text = text ≡ version_text
 -- the text of `turns`, `simulate`, `run` or `block` where some client has a call left; no other
 -- command stalls
 abbrev pub IsStalledText : (List ℕ → Option (List ℕ)) → Command → List ℕ → Type 0
-IsStalledText held (check file) text = ⊥
 IsStalledText held (turns monitor clients) text =
     (scripts : List Client) × (run : Turns) × IsTurnsText held monitor clients scripts run text
     × (IsFinished scripts (end_of run) → ⊥)
-IsStalledText held (compile file choice) text = ⊥
 IsStalledText held (simulate monitor clients schedule choice) text =
     (scripts : List Client) × (last : Configuration)
     × IsSimulateText held monitor clients schedule choice scripts last text
     × (IsFinished scripts (situation_of last) → ⊥)
 IsStalledText held (run monitor clients workers choice) text =
     IsStalledRunText held monitor clients choice text
-IsStalledText held (stress number workers) text = ⊥
-IsStalledText held (report file count fits) text = ⊥
-IsStalledText held (recheck monitor report_file) text = ⊥
 IsStalledText held (block monitor clients choice) text =
     IsStalledRunText held monitor clients choice text
-IsStalledText held (audit monitor plan_file count) text = ⊥
-IsStalledText held (explain file count fits) text = ⊥
-IsStalledText held (emit file) text = ⊥
-IsStalledText held version text = ⊥
+IsStalledText held command text = ⊥
 
 -- ---- refusals
 
@@ -356,72 +341,22 @@ pub record IsMonitorRefusal (held : List ℕ → Option (List ℕ)) (file text :
   pub told : HoldsBytes held file bytes
   pub line : IsRefusalLine (IsFirstOfMonitor bytes) file bytes text
 
--- the monitor file is accepted, and the line refuses the client file
-pub record IsClientsRefusal (held : List ℕ
-    → Option (List ℕ)) (monitor_file clients_file text : List ℕ) : Type 0 where
-  pub monitor_bytes : List ℕ
-  pub clients_bytes : List ℕ
-  pub tree : MonitorTree
-  pub monitor : MonitorParts
-  pub monitor_told : HoldsBytes held monitor_file monitor_bytes
-  pub clients_told : HoldsBytes held clients_file clients_bytes
-  pub monitor_accepted : IsAccepted monitor_bytes tree monitor
-  pub line : IsRefusalLine (IsFirstOfClients clients_bytes monitor) clients_file clients_bytes text
+-- the line that refuses the other file, of this name
+abbrev pub IsOtherRefusal : Other → List ℕ → MonitorTree → MonitorParts → List ℕ → List ℕ → Type 0
+IsOtherRefusal as_clients file tree monitor bytes text =
+    IsRefusalLine (IsFirstOfClients bytes monitor) file bytes text
+IsOtherRefusal as_report file tree monitor bytes text =
+    IsReportRefusalLine monitor file bytes text
+IsOtherRefusal (as_plan count) file tree monitor bytes text =
+    IsPlanRefusalLine count tree monitor file bytes text
 
--- the line of the first of both files that is not accepted
-abbrev pub IsRunRefusal : (List ℕ → Option (List ℕ)) → List ℕ → List ℕ → List ℕ → Type 0
-IsRunRefusal held monitor clients text =
-    IsMonitorRefusal held monitor text ⊎ IsClientsRefusal held monitor clients text
-
--- the monitor file is accepted, and the line refuses the report's file
-pub record IsReportRefusal (held : List ℕ
-    → Option (List ℕ)) (monitor_file report_file text : List ℕ) : Type 0 where
-  pub tree : MonitorTree
-  pub monitor : MonitorParts
-  pub bytes : List ℕ
-  pub holds : HoldsMonitor held monitor_file tree monitor
-  pub told : HoldsBytes held report_file bytes
-  pub line : IsReportRefusalLine monitor report_file bytes text
-
--- the line of the first of both files that is not accepted
-abbrev pub IsRecheckRefusal : (List ℕ → Option (List ℕ)) → List ℕ → List ℕ → List ℕ → Type 0
-IsRecheckRefusal held monitor report_file text =
-    IsMonitorRefusal held monitor text ⊎ IsReportRefusal held monitor report_file text
-
--- the monitor file is accepted, and the line refuses the plan's file
-pub record IsPlanRefusal (held : List ℕ
-    → Option (List ℕ)) (count : Bool) (monitor_file plan_file text : List ℕ) : Type 0 where
-  pub tree : MonitorTree
-  pub monitor : MonitorParts
-  pub bytes : List ℕ
-  pub holds : HoldsMonitor held monitor_file tree monitor
-  pub told : HoldsBytes held plan_file bytes
-  pub line : IsPlanRefusalLine count tree monitor plan_file bytes text
-
--- the line of the first of both files that is not accepted
-abbrev pub IsAuditRefusal : (List ℕ → Option (List ℕ)) → Bool → List ℕ → List ℕ → List ℕ → Type 0
-IsAuditRefusal held count monitor plan_file text =
-    IsMonitorRefusal held monitor text ⊎ IsPlanRefusal held count monitor plan_file text
-
--- the line that refuses a file of the command; `stress` and `--version` have no files
-abbrev pub IsRefusedText : (List ℕ → Option (List ℕ)) → Command → List ℕ → Type 0
-IsRefusedText held (check file) text = IsMonitorRefusal held file text
-IsRefusedText held (turns monitor clients) text = IsRunRefusal held monitor clients text
-IsRefusedText held (compile file choice) text = IsMonitorRefusal held file text
-IsRefusedText held (simulate monitor clients schedule choice) text =
-    IsRunRefusal held monitor clients text
-IsRefusedText held (run monitor clients workers choice) text =
-    IsRunRefusal held monitor clients text
-IsRefusedText held (stress number workers) text = ⊥
-IsRefusedText held (report file count fits) text = IsMonitorRefusal held file text
-IsRefusedText held (recheck monitor report_file) text =
-    IsRecheckRefusal held monitor report_file text
-IsRefusedText held (block monitor clients choice) text = IsRunRefusal held monitor clients text
-IsRefusedText held (audit monitor plan_file count) text =
-    IsAuditRefusal held count monitor plan_file text
-IsRefusedText held (explain file count fits) text = IsMonitorRefusal held file text
-IsRefusedText held (emit file) text = IsMonitorRefusal held file text
-IsRefusedText held version text = ⊥
+-- the line of the first of a command's files that is not accepted
+abbrev pub IsRefusedText : (List ℕ → Option (List ℕ)) → CommandFiles → List ℕ → Type 0
+IsRefusedText held no_files text = ⊥
+IsRefusedText held (one_file monitor) text = IsMonitorRefusal held monitor text
+IsRefusedText held (two_files other monitor file) text =
+    IsMonitorRefusal held monitor text
+    ⊎ IsOtherText held (IsOtherRefusal other file) monitor file text
 
 -- a read fault's line that names one of the command's files; which of them, no clause says
 abbrev pub IsUnreadText : Command → List ℕ → Type 0
@@ -437,7 +372,7 @@ IsText words files files_now Done text =
 IsText words files files_now Stalled text =
     (command : Command) × Takes words command × IsStalledText files.held command text
 IsText words files files_now Refused text =
-    (command : Command) × Takes words command × IsRefusedText files.held command text
+    (command : Command) × Takes words command × IsRefusedText files.held (reads command) text
 IsText words files files_now Usage text = TakesNone words × (text ≡ usage_text)
 IsText words files files_now ReadFault text =
     (command : Command) × Takes words command × IsUnreadText command text
@@ -477,93 +412,45 @@ RejectsMonitor held file =
     (bytes : List ℕ) × (held file ≡ Some bytes)
     × ((tree : MonitorTree) (monitor : MonitorParts) → IsAccepted bytes tree monitor → ⊥)
 
--- the two files tell their bytes, which are accepted
-abbrev pub AcceptsRun : (List ℕ → Option (List ℕ)) → List ℕ → List ℕ → Type 0
-AcceptsRun held monitor_file clients_file =
-    (monitor_bytes : List ℕ) × (clients_bytes : List ℕ) × (tree : MonitorTree)
-    × (monitor : MonitorParts) × (clients : List Client)
-    × (held monitor_file ≡ Some monitor_bytes) × (held clients_file ≡ Some clients_bytes)
-    × IsAccepted monitor_bytes tree monitor × AreAccepted clients_bytes monitor clients
+-- the bytes of the other file must be accepted for the monitor: they are its clients', or those of
+-- a report of it that is accepted, or of a plan of which nothing may be found but that it is lawful
+abbrev pub MustAccept : Other → MonitorParts → List ℕ → Type 0
+MustAccept as_clients monitor bytes = (clients : List Client) × AreAccepted bytes monitor clients
+MustAccept as_report monitor bytes = (own : CountedReport) × IsRechecked bytes monitor own
+MustAccept (as_plan count) monitor bytes = (plan : Plan) × IsAudited count bytes monitor plan
+
+-- they may be: those of a plan that may be found lawful, and of others those that must be
+abbrev pub MayAccept : Other → MonitorParts → List ℕ → Type 0
+MayAccept (as_plan count) monitor bytes = (plan : Plan) × MayBeLawful count bytes monitor plan
+MayAccept other monitor bytes = MustAccept other monitor bytes
+
+-- the files of a command tell their bytes, which are accepted
+abbrev pub AcceptsFiles : (List ℕ → Option (List ℕ)) → CommandFiles → Type 0
+AcceptsFiles held no_files = Unit {0}
+AcceptsFiles held (one_file monitor) = AcceptsMonitor held monitor
+AcceptsFiles held (two_files other monitor_file file) =
+    (monitor_bytes : List ℕ) × (bytes : List ℕ) × (tree : MonitorTree) × (monitor : MonitorParts)
+    × (held monitor_file ≡ Some monitor_bytes) × (held file ≡ Some bytes)
+    × IsAccepted monitor_bytes tree monitor × MustAccept other monitor bytes
 
 -- they tell their bytes, and one of them is not accepted
-abbrev pub RejectsRun : (List ℕ → Option (List ℕ)) → List ℕ → List ℕ → Type 0
-RejectsRun held monitor_file clients_file =
-    (monitor_bytes : List ℕ) × (clients_bytes : List ℕ) × (held monitor_file ≡ Some monitor_bytes)
-    × (held clients_file ≡ Some clients_bytes)
-    × ((tree : MonitorTree) (monitor : MonitorParts) (clients : List Client)
-    → IsAccepted monitor_bytes tree monitor → AreAccepted clients_bytes monitor clients → ⊥)
-
--- the two files tell their bytes: a monitor's, and those of a report of it that is accepted
-abbrev pub AcceptsReport : (List ℕ → Option (List ℕ)) → List ℕ → List ℕ → Type 0
-AcceptsReport held monitor_file report_file =
-    (monitor_bytes : List ℕ) × (report_bytes : List ℕ) × (tree : MonitorTree)
-    × (monitor : MonitorParts) × (own : CountedReport)
-    × (held monitor_file ≡ Some monitor_bytes) × (held report_file ≡ Some report_bytes)
-    × IsAccepted monitor_bytes tree monitor × IsRechecked report_bytes monitor own
-
--- they tell their bytes, and these are not a monitor's and those of an accepted report of it
-abbrev pub RejectsReport : (List ℕ → Option (List ℕ)) → List ℕ → List ℕ → Type 0
-RejectsReport held monitor_file report_file =
-    (monitor_bytes : List ℕ) × (report_bytes : List ℕ) × (held monitor_file ≡ Some monitor_bytes)
-    × (held report_file ≡ Some report_bytes)
-    × ((tree : MonitorTree) (monitor : MonitorParts) (own : CountedReport)
-    → IsAccepted monitor_bytes tree monitor → IsRechecked report_bytes monitor own → ⊥)
-
--- the two files tell their bytes: a monitor's, and those of a plan of which nothing may be found
--- but that it is lawful
-abbrev pub AcceptsPlan : (List ℕ → Option (List ℕ)) → Bool → List ℕ → List ℕ → Type 0
-AcceptsPlan held count monitor_file plan_file =
-    (monitor_bytes : List ℕ) × (plan_bytes : List ℕ) × (tree : MonitorTree)
-    × (monitor : MonitorParts) × (plan : Plan)
-    × (held monitor_file ≡ Some monitor_bytes) × (held plan_file ≡ Some plan_bytes)
-    × IsAccepted monitor_bytes tree monitor × IsAudited count plan_bytes monitor plan
-
--- they tell their bytes, and these are not a monitor's and those of a plan that may be found lawful
-abbrev pub RejectsPlan : (List ℕ → Option (List ℕ)) → Bool → List ℕ → List ℕ → Type 0
-RejectsPlan held count monitor_file plan_file =
-    (monitor_bytes : List ℕ) × (plan_bytes : List ℕ) × (held monitor_file ≡ Some monitor_bytes)
-    × (held plan_file ≡ Some plan_bytes)
-    × ((tree : MonitorTree) (monitor : MonitorParts) (plan : Plan)
-    → IsAccepted monitor_bytes tree monitor → MayBeLawful count plan_bytes monitor plan → ⊥)
-
--- the files of the command tell their bytes, which are accepted; `stress` and `--version` have none
-abbrev pub AcceptsFiles : (List ℕ → Option (List ℕ)) → Command → Type 0
-AcceptsFiles held (check file) = AcceptsMonitor held file
-AcceptsFiles held (turns monitor clients) = AcceptsRun held monitor clients
-AcceptsFiles held (compile file choice) = AcceptsMonitor held file
-AcceptsFiles held (simulate monitor clients schedule choice) = AcceptsRun held monitor clients
-AcceptsFiles held (run monitor clients workers choice) = AcceptsRun held monitor clients
-AcceptsFiles held (stress number workers) = Unit {0}
-AcceptsFiles held (report file count fits) = AcceptsMonitor held file
-AcceptsFiles held (recheck monitor report_file) = AcceptsReport held monitor report_file
-AcceptsFiles held (block monitor clients choice) = AcceptsRun held monitor clients
-AcceptsFiles held (audit monitor plan_file count) = AcceptsPlan held count monitor plan_file
-AcceptsFiles held (explain file count fits) = AcceptsMonitor held file
-AcceptsFiles held (emit file) = AcceptsMonitor held file
-AcceptsFiles held version = Unit {0}
-
--- they tell their bytes, and one of them is not accepted
-abbrev pub RejectsFiles : (List ℕ → Option (List ℕ)) → Command → Type 0
-RejectsFiles held (check file) = RejectsMonitor held file
-RejectsFiles held (turns monitor clients) = RejectsRun held monitor clients
-RejectsFiles held (compile file choice) = RejectsMonitor held file
-RejectsFiles held (simulate monitor clients schedule choice) = RejectsRun held monitor clients
-RejectsFiles held (run monitor clients workers choice) = RejectsRun held monitor clients
-RejectsFiles held (stress number workers) = ⊥
-RejectsFiles held (report file count fits) = RejectsMonitor held file
-RejectsFiles held (recheck monitor report_file) = RejectsReport held monitor report_file
-RejectsFiles held (block monitor clients choice) = RejectsRun held monitor clients
-RejectsFiles held (audit monitor plan_file count) = RejectsPlan held count monitor plan_file
-RejectsFiles held (explain file count fits) = RejectsMonitor held file
-RejectsFiles held (emit file) = RejectsMonitor held file
-RejectsFiles held version = ⊥
+abbrev pub RejectsFiles : (List ℕ → Option (List ℕ)) → CommandFiles → Type 0
+RejectsFiles held no_files = ⊥
+RejectsFiles held (one_file monitor) = RejectsMonitor held monitor
+RejectsFiles held (two_files other monitor_file file) =
+    (monitor_bytes : List ℕ) × (bytes : List ℕ) × (held monitor_file ≡ Some monitor_bytes)
+    × (held file ≡ Some bytes)
+    × ((tree : MonitorTree) (monitor : MonitorParts)
+    → IsAccepted monitor_bytes tree monitor → MayAccept other monitor bytes → ⊥)
 
 -- the words are a command's whose files are accepted; or one of them is not
 abbrev pub Accepts : (List ℕ → Option (List ℕ)) → List (List ℕ) → Type 0
-Accepts held words = (command : Command) × Takes words command × AcceptsFiles held command
+Accepts held words =
+    (command : Command) × Takes words command × AcceptsFiles held (reads command)
 
 abbrev pub Rejects : (List ℕ → Option (List ℕ)) → List (List ℕ) → Type 0
-Rejects held words = (command : Command) × Takes words command × RejectsFiles held command
+Rejects held words =
+    (command : Command) × Takes words command × RejectsFiles held (reads command)
 
 -- ---- which statuses may come
 

@@ -7,7 +7,7 @@ use Rattle.report_text.specs.declared.fault.Fault.TheVariants as faults
 use Rattle.report_text.specs.FaultText.{unread_text}
 use Rattle.expresso_answers.specs.declared.status.Status.{Status}
 use Rattle.expresso_answers.specs.declared.status.Status.TheVariants as statuses
-use Rattle.front_command.specs.CommandLine.{Command}
+use Rattle.front_command.specs.CommandLine.{Command, reads}
 use Rattle.expresso_answers.specs.Answers.{AcceptsFiles, RejectsFiles, IsDoneText, IsStalledText}
 use Rattle.expresso_answers.specs.Answers.{IsRefusedText, IsUnfinished, IsUnreadText}
 use Rattle.expresso_answers.specs.Answers.{IsWorkedOrMemory}
@@ -67,7 +67,8 @@ fault_status fault = statuses.Refused
 abbrev pub IsCommandText : Command → FilesSeen → FilesSeen → Status → List ℕ → Type 0
 IsCommandText command files files_now statuses.Done text = IsDoneText files.held command text
 IsCommandText command files files_now statuses.Stalled text = IsStalledText files.held command text
-IsCommandText command files files_now statuses.Refused text = IsRefusedText files.held command text
+IsCommandText command files files_now statuses.Refused text =
+    IsRefusedText files.held (reads command) text
 IsCommandText command files files_now statuses.ReadFault text =
     IsUnreadText command text × Rises files.faults files_now.faults
 IsCommandText command files files_now status text = ⊥
@@ -84,12 +85,14 @@ AnswersCommand command files files_now result out out_now =
 pub record CommandEnds (command : Command) (files files_now : FilesSeen) (result : Status)
     (out out_now : SinkSeen) : Type 0 where
   pub answer : AnswersCommand command files files_now result out out_now
-  pub accepted : AcceptsFiles files.held command → (Rises files.faults files_now.faults → ⊥)
-      → (Rises out.faults out_now.faults → ⊥) → IsWorkedOrMemory result
-  pub rejected : RejectsFiles files.held command → (Rises files.faults files_now.faults → ⊥)
-      → (Rises out.faults out_now.faults → ⊥) → IsRefusedOrMemory result
-  pub stopped : RejectsFiles files.held command → (Rises out.faults out_now.faults → ⊥)
-      → IsStoppedOrMemory result
+  pub accepted : AcceptsFiles files.held (reads command)
+      → (Rises files.faults files_now.faults → ⊥) → (Rises out.faults out_now.faults → ⊥)
+      → IsWorkedOrMemory result
+  pub rejected : RejectsFiles files.held (reads command)
+      → (Rises files.faults files_now.faults → ⊥) → (Rises out.faults out_now.faults → ⊥)
+      → IsRefusedOrMemory result
+  pub stopped : RejectsFiles files.held (reads command)
+      → (Rises out.faults out_now.faults → ⊥) → IsStoppedOrMemory result
   pub unread : files.faults < files_now.faults → (Rises out.faults out_now.faults → ⊥)
       → IsUnreadOrMemory result
 

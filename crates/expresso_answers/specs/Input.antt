@@ -1,14 +1,16 @@
 -- What the bytes of the files of commands come to.
-use Rattle.std.specs.Prelude.{◌≡◌, ℕ, List, [], ◌∷◌, Option}
+use Rattle.std.specs.Prelude.{◌≡◌, ◌<◌, ◌≤◌, ℕ, List, Option, length}
 use Rattle.base_io.specs.Outside.{FilesSeen, SinkSeen}
+use Rattle.report_text.specs.declared.fault.Fault.{Fault}
+use Rattle.report_text.specs.Faults.{fault_text}
 use Rattle.expresso_answers.specs.declared.status.Status.{Status}
-use Rattle.front_command.specs.CommandLine.{Command, files_of}
+use Rattle.expresso_answers.specs.declared.status.Status.TheVariants.{Refused}
+use Rattle.front_command.specs.CommandLine.{Command, CommandFiles, Other, reads}
 use Rattle.lang_tree.specs.declared.tree.MonitorTree.{MonitorTree}
 use Rattle.lang_monitor.specs.MonitorParts.{MonitorParts}
 use Rattle.expresso_answers.specs.MonitorFiles.{IsAccepted}
-use Rattle.expresso_answers.specs.Answers.{AcceptsFiles, AcceptsMonitor, AcceptsRun, HoldsBytes}
-use Rattle.expresso_answers.specs.Answers.{IsMonitorRefusal, IsRefusedText, IsRunRefusal}
-use Rattle.expresso_answers.specs.Ending.{CommandEnds}
+use Rattle.expresso_answers.specs.Answers.{HoldsBytes, IsOtherRefusal, MustAccept}
+use Rattle.expresso_answers.specs.Ending.{CommandEnds, fault_status}
 
 -- the file holds these bytes, where it is told, and they stand for the monitor
 pub record HoldsText (held : List ℕ → Option (List ℕ)) (file bytes : List ℕ) (tree : MonitorTree)
@@ -16,31 +18,17 @@ pub record HoldsText (held : List ℕ → Option (List ℕ)) (file bytes : List 
   pub told : HoldsBytes held file bytes
   pub accepted : IsAccepted bytes tree monitor
 
--- the command works on the monitor of this file, and reads these others
-pub record WorksOn (command : Command) (file : List ℕ) (others : List (List ℕ)) : Type 0 where
-  pub files : files_of command ≡ file ∷ others
-  pub refused : (held : List ℕ → Option (List ℕ)) (text : List ℕ) → IsMonitorRefusal held file text
-      → IsRefusedText held command text
-  pub accepted : (held : List ℕ → Option (List ℕ)) → AcceptsFiles held command
-      → AcceptsMonitor held file
-
--- how any command ended that works on the monitor of this file, and reads these others
-abbrev pub CommandsEndOn : List ℕ → List (List ℕ) → FilesSeen → FilesSeen → Status → SinkSeen
-    → SinkSeen → Type 0
-CommandsEndOn file others files files_now result out out_now =
-    (command : Command) → WorksOn command file others
+-- how any command ended that reads these files
+abbrev pub ReadersEnd : CommandFiles → FilesSeen → FilesSeen → Status → SinkSeen → SinkSeen → Type 0
+ReadersEnd read files files_now result out out_now =
+    (command : Command) → reads command ≡ read
     → CommandEnds command files files_now result out out_now
 
--- the command runs the clients of the second file on the monitor of the first
-pub record RunsFiles (command : Command) (monitor clients : List ℕ) : Type 0 where
-  pub files : files_of command ≡ monitor ∷ clients ∷ []
-  pub refused : (held : List ℕ → Option (List ℕ)) (text : List ℕ)
-      → IsRunRefusal held monitor clients text → IsRefusedText held command text
-  pub accepted : (held : List ℕ → Option (List ℕ)) → AcceptsFiles held command
-      → AcceptsRun held monitor clients
-
--- how any command ended that runs the clients of the second file on the monitor of the first
-abbrev pub RunsEnd : List ℕ → List ℕ → FilesSeen → FilesSeen → Status → SinkSeen → SinkSeen → Type 0
-RunsEnd monitor clients files files_now result out out_now =
-    (command : Command) → RunsFiles command monitor clients
-    → CommandEnds command files files_now result out out_now
+-- the other file must have no more bytes than these to be accepted, and the fault's line refuses it
+-- where it has
+pub record IsLimit (other : Other) (file : List ℕ) (most : ℕ) (fault : Fault) : Type 0 where
+  pub short : (monitor : MonitorParts) (bytes : List ℕ) → MustAccept other monitor bytes
+      → length bytes ≤ most
+  pub line : (tree : MonitorTree) (monitor : MonitorParts) (bytes : List ℕ) → most < length bytes
+      → IsOtherRefusal other file tree monitor bytes (fault_text fault)
+  pub status : fault_status fault ≡ Refused

@@ -1,14 +1,17 @@
 //! A monitor, alone or with another file, from the files that a command names.
 
-ghost use Rattle.std.specs.Prelude.{◌≡◌, [], ◌∷◌, All, IfErr, IfOk, OnOk};
+ghost use Rattle.std.specs.Prelude.{◌≡◌, ◌<◌, ◌≤◌, [], ◌∷◌, All, IfErr, IfOk, OnOk, length};
+ghost use Rattle.lang_base.specs.Limits.{FILE_BYTES};
 ghost use Rattle.machine_implicit.specs.Scripted.{FitsScripts};
-ghost use Rattle.base_io.specs.Outside.{IsRead};
+ghost use Rattle.front_command.specs.CommandLine.{Other, as_clients, one_file, two_files};
 ghost use Rattle.expresso_answers.specs.FirstFaults.{IsRefusalLine};
 ghost use Rattle.expresso_answers.specs.MonitorFiles.{IsAccepted, IsFirstOfMonitor};
 ghost use Rattle.expresso_answers.specs.ClientFiles.{AreAccepted, IsFirstOfClients};
-ghost use Rattle.expresso_answers.specs.Answers.{HoldRun, HoldsMonitor};
-ghost use Rattle.expresso_answers.specs.Ending.{IsQuiet, IsTurnedAway, KeepsFiles};
-ghost use Rattle.expresso_answers.specs.Input.{CommandsEndOn, HoldsText, RunsEnd};
+ghost use Rattle.expresso_answers.specs.Answers.{HoldRun, HoldsBytes, HoldsMonitor};
+ghost use Rattle.report_text.specs.Faults.{fault_text};
+ghost use Rattle.expresso_answers.specs.Ending.{IsQuiet, IsTurnedAway, IsWritten, KeepsFiles};
+ghost use Rattle.expresso_answers.specs.Ending.{fault_status};
+ghost use Rattle.expresso_answers.specs.Input.{HoldsText, IsLimit, ReadersEnd};
 
 use crate::client_file::read_clients;
 use crate::monitor_file::{MonitorFile, read_monitor};
@@ -61,6 +64,7 @@ fn scripts_in<S: Sink>(
     monitor: &Monitor,
     out: &mut S,
 ) -> Result<Scripts, Status>
+    requires { length bytes.now ≤ FILE_BYTES }
     ensures accepted { IfOk result (λ scripts. AreAccepted bytes.now monitor.now scripts) }
     ensures fits { IfOk result (λ scripts. FitsScripts monitor.now scripts) }
     ensures silent { OnOk result (S.seen out.new ≡ S.seen out.old) }
@@ -68,9 +72,6 @@ fn scripts_in<S: Sink>(
         (IsRefusalLine (IsFirstOfClients bytes.now monitor.now) file.now bytes.now)
         status (S.seen out.old) (S.seen out.new)) }
 {
-    if bytes.len() > FILE_BYTES {
-        return Err(show_fault(&Fault::TooLong { file }, out));
-    }
     match read_clients(alloc, bytes, monitor) {
         Ok(scripts) => Ok(scripts),
         Err(SourceError::Fault(fault)) => Err(show_fault(
@@ -94,7 +95,7 @@ pub fn monitor_of<F: Files, S: Sink>(
         file.now found.tree found.monitor) }
     ensures quiet { OnOk result (IsQuiet (F.seen files.old) (F.seen files.new)
         (S.seen out.old) (S.seen out.new)) }
-    ensures ended { IfErr result (λ status. CommandsEndOn file.now []
+    ensures ended { IfErr result (λ status. ReadersEnd (one_file file.now)
         (F.seen files.old) (F.seen files.new) status (S.seen out.old) (S.seen out.new)) }
     ensures files { KeepsFiles (F.seen files.old) (F.seen files.new)
         (F.may_read files.old) (F.may_read files.new) }
@@ -125,7 +126,7 @@ pub fn text_of<F: Files, S: Sink>(
         file.now text.bytes.items text.found.tree text.found.monitor) }
     ensures quiet { OnOk result (IsQuiet (F.seen files.old) (F.seen files.new)
         (S.seen out.old) (S.seen out.new)) }
-    ensures ended { IfErr result (λ status. CommandsEndOn file.now []
+    ensures ended { IfErr result (λ status. ReadersEnd (one_file file.now)
         (F.seen files.old) (F.seen files.new) status (S.seen out.old) (S.seen out.new)) }
     ensures files { KeepsFiles (F.seen files.old) (F.seen files.new)
         (F.may_read files.old) (F.may_read files.new) }
@@ -137,6 +138,26 @@ pub fn text_of<F: Files, S: Sink>(
     Ok(MonitorText { found, bytes })
 }
 
+/// Writes the line of a fault where bytes are more than there may be. Then the status of that line.
+fn check_length<S: Sink>(
+    bytes: &[u8],
+    most: usize,
+    too_long: &Fault,
+    out: &mut S,
+) -> Result<(), Status>
+    ensures short { IfOk result (λ done. length bytes.now ≤ most) }
+    ensures silent { OnOk result (S.seen out.new ≡ S.seen out.old) }
+    ensures long { IfErr result (λ status. most < length bytes.now) }
+    ensures written { IfErr result (λ status.
+        IsWritten (fault_status too_long.now) (fault_text too_long.now) status
+        (S.seen out.old) (S.seen out.new)) }
+{
+    if bytes.len() > most {
+        return Err(show_fault(too_long, out));
+    }
+    Ok(())
+}
+
 /// A monitor, and the bytes of the other file of its command.
 #[derive(Debug, Drop)]
 pub struct Opened {
@@ -144,25 +165,29 @@ pub struct Opened {
     pub bytes: Vec<u8>,
 }
 
-/// Reads both files, the monitor first, and of the other one byte more than it may have at most.
-/// Where there is no monitor, or one of them couldn't be read, the status of their command: the
-/// line of the first fault is written then.
+/// Reads both files, the monitor first. Where there is no monitor, one of them couldn't be read, or
+/// the other one has more bytes than it may have, the status of their command: the line of the
+/// first fault is written then, of a long file that of `too_long`.
 pub fn open_both<F: Files, S: Sink>(
     alloc: Global,
     monitor: &str,
     other: &str,
-    most: u64,
+    most: usize,
+    too_long: &Fault,
     files: &mut F,
     out: &mut S,
 ) -> Result<Opened, Status>
     requires files { All (F.may_read files.old) (monitor.now ∷ other.now ∷ []) }
     ensures holds { IfOk result (λ opened. HoldsMonitor (F.seen files.old).held
         monitor.now opened.found.tree opened.found.monitor) }
-    ensures read { IfOk result (λ opened.
-        IsRead ((F.seen files.old).held other.now) most opened.bytes.items) }
+    ensures told { IfOk result (λ opened.
+        HoldsBytes (F.seen files.old).held other.now opened.bytes.items) }
+    ensures short { IfOk result (λ opened. length opened.bytes.items ≤ most) }
     ensures quiet { OnOk result (IsQuiet (F.seen files.old) (F.seen files.new)
         (S.seen out.old) (S.seen out.new)) }
-    ensures ended { IfErr result (λ status. CommandsEndOn monitor.now (other.now ∷ [])
+    ensures ended { IfErr result (λ status. (kind : Other)
+        → IsLimit kind other.now most too_long.now
+        → ReadersEnd (two_files kind monitor.now other.now)
         (F.seen files.old) (F.seen files.new) status (S.seen out.old) (S.seen out.new)) }
     ensures files { KeepsFiles (F.seen files.old) (F.seen files.new)
         (F.may_read files.old) (F.may_read files.new) }
@@ -170,8 +195,9 @@ pub fn open_both<F: Files, S: Sink>(
     one_spelling();
     derives_one_tree();
     let monitor_bytes = bytes_of(alloc, monitor, FILE_BYTES as u64, files, out)?;
-    let bytes = bytes_of(alloc, other, most, files, out)?;
+    let bytes = bytes_of(alloc, other, most as u64, files, out)?;
     let found = monitor_in(alloc, monitor, &monitor_bytes, out)?;
+    check_length(&bytes, most, too_long, out)?;
     Ok(Opened { found, bytes })
 }
 
@@ -197,14 +223,23 @@ pub fn input_of<F: Files, S: Sink>(
     ensures fits { IfOk result (λ input. FitsScripts input.monitor input.scripts) }
     ensures quiet { OnOk result (IsQuiet (F.seen files.old) (F.seen files.new)
         (S.seen out.old) (S.seen out.new)) }
-    ensures ended { IfErr result (λ status. RunsEnd monitor.now clients.now
+    ensures ended { IfErr result (λ status.
+        ReadersEnd (two_files as_clients monitor.now clients.now)
         (F.seen files.old) (F.seen files.new) status (S.seen out.old) (S.seen out.new)) }
     ensures files { KeepsFiles (F.seen files.old) (F.seen files.new)
         (F.may_read files.old) (F.may_read files.new) }
 {
     one_spelling();
     derives_one_tree();
-    let opened = open_both(alloc, monitor, clients, FILE_BYTES as u64, files, out)?;
+    let opened = open_both(
+        alloc,
+        monitor,
+        clients,
+        FILE_BYTES,
+        &Fault::TooLong { file: clients },
+        files,
+        out,
+    )?;
     let Opened { found, bytes } = opened;
     let scripts = scripts_in(alloc, clients, &bytes, &found.monitor, out)?;
     Ok(Input {

@@ -1,5 +1,5 @@
 -- How `explain` ends.
-use Rattle.std.proofs.Common.{◌≡◌, ℕ, Bool, true, false, List, [], Option, refl, sym, subst, All, map}
+use Rattle.std.proofs.Common.{◌≡◌, ℕ, true, false, List, Option, refl, sym, subst, All, map}
 use Rattle.base_io.specs.Outside.{FilesSeen, SinkSeen}
 use Rattle.lang_tree.specs.declared.tree.MonitorTree.{MonitorTree}
 use Rattle.lang_monitor.specs.MonitorParts.{MonitorParts}
@@ -14,7 +14,6 @@ use Rattle.expresso_answers.specs.Texts.{count_explained_text, explained_text}
 use Rattle.expresso_reports.specs.inner.Explaining.{IsCountExplained, IsExplained}
 use Rattle.expresso_answers.specs.Answers.{HoldsMonitor}
 use Rattle.expresso_answers.specs.Ending.{CommandEnds, IsWritten}
-use Rattle.expresso_answers.specs.Input.{WorksOn}
 use Rattle.expresso_answers.proofs.Ending.{work_ended}
 use Rattle.std.specs.List.{enumerate_from}
 use Rattle.lang_monitor.specs.declared.candidate.Candidate.{Candidate}
@@ -30,9 +29,6 @@ use Rattle.plan_needs.specs.Needs.{broadcasts_of}
 use Rattle.plan_why.specs.Things.{things_of}
 use Rattle.expresso_answers.proofs.OneFile.{no_rejection}
 use Rattle.expresso_answers.proofs.Placed.{counted_choice}
-
-pub explain_works : (file : List ℕ) (count fits : Bool) → WorksOn (explain file count fits) file []
-explain_works file count fits = record { files = refl; refused = λ held text is. is; accepted = λ held is. is }
 
 -- a table that is backed for a plan is so for another that keeps the same
 pub backed_for : (monitor : MonitorParts) (placed plan : Plan) (columns : List (Option Column)) → plan.kept ≡ placed.kept → AreBacked monitor placed columns → AreBacked monitor plan columns

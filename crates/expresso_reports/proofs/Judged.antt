@@ -1,15 +1,17 @@
 -- How `report` and `recheck` end.
-use Rattle.std.proofs.Common.{◌≡◌, ℕ, ◌<◌, ◌≤◌, ◌⊎◌, Bool, true, false, List, [], ◌∷◌, ◌++◌, ◌+◌, length, Option, Some, None, Result, Ok, Err, map, refl, sym, ap, subst, ◌∙◌, inl, inr, arith}
-use Rattle.std.specs.Prelude.{All, IfOk, IfSome}
+use Rattle.std.proofs.Common.{◌≡◌, ℕ, ◌≤◌, ◌⊎◌, Bool, true, false, List, ◌++◌, ◌+◌, length, Option, Some, None, Result, Ok, Err, map, refl, sym, ap, subst, ◌∙◌, inl, inr, arith}
+use Rattle.std.specs.Prelude.{All, IfOk}
 use Rattle.std.specs.declared.alloc.AllocError.{AllocError}
 use Rattle.std.proofs.lemmas.Option.{none-some}
-use Rattle.base_io.specs.Outside.{FilesSeen, SinkSeen, IsRead}
+use Rattle.base_io.specs.Outside.{FilesSeen, SinkSeen}
 use Rattle.lang_tree.specs.declared.tree.MonitorTree.{MonitorTree}
 use Rattle.lang_monitor.specs.declared.candidate.Candidate.{Candidate}
 use Rattle.lang_monitor.specs.MonitorParts.{MonitorParts}
 use Rattle.plan_claims.specs.declared.placed.PlacedPlan.{PlacedPlan}
 use Rattle.plan_claims.specs.Backing.{AreProofs, backed_claims}
-use Rattle.report_text.specs.FaultText.{not_report_text, other_too_long_text}
+use Rattle.report_text.specs.declared.fault.Fault.{Fault}
+use Rattle.report_text.specs.Faults.{fault_text}
+use Rattle.report_text.specs.FaultText.{other_too_long_text}
 use Rattle.report_verdict.specs.declared.report.Verdict.{Verdict}
 use Rattle.report_verdict.specs.declared.report.Verdict.TheVariants as verdicts
 use Rattle.logic_outline.specs.Outlines.{HasTypedNumbers}
@@ -30,29 +32,24 @@ use Rattle.report_fits.specs.FitReadings.{AreFitsRead}
 use Rattle.report_fits.specs.FitVerdicts.{IsFirstOpenFit, IsFit, fitting_text}
 use Rattle.report_fits.proofs.Checks.{none_open}
 use Rattle.report_fits.proofs.PartedTexts.{same_parts}
-use Rattle.front_command.specs.CommandLine.{report, recheck}
+use Rattle.front_command.specs.CommandLine.{as_report, recheck, report}
 use Rattle.expresso_answers.specs.declared.status.Status.{Status}
 use Rattle.expresso_answers.specs.declared.status.Status.TheVariants as statuses
 use Rattle.expresso_answers.specs.Placements.{IsCounting, IsPlacement}
-use Rattle.expresso_answers.specs.MonitorFiles.{IsAccepted}
 use Rattle.expresso_reports.specs.declared.recheck.Judgement.{Judgement}
 use Rattle.expresso_reports.specs.declared.recheck.Judgement.TheVariants as judgements
 use Rattle.expresso_answers.specs.ReportFiles.{IsAcceptance, IsAcceptanceLine, IsNoReport, IsRechecked, IsRejected, IsReportFile, IsReportRefusalLine, many_certs}
-use Rattle.expresso_answers.specs.Answers.{AcceptsMonitor, AcceptsReport, HoldsMonitor, RejectsReport}
-use Rattle.expresso_answers.specs.Ending.{CommandEnds, IsTurnedAway, IsWritten}
-use Rattle.expresso_answers.specs.Input.{WorksOn}
-use Rattle.expresso_reports.specs.inner.Judging.{IsFitsCheck, IsJudged, IsJudgement, IsReportJudged, IsRestJudged, judgement_status, judgement_text}
-use Rattle.expresso_answers.proofs.Telling.{told, is_told, read_short, held_long, holds_same}
+use Rattle.expresso_answers.specs.Answers.{HoldsBytes, HoldsMonitor}
+use Rattle.expresso_answers.specs.Ending.{CommandEnds, IsWritten, fault_status}
+use Rattle.expresso_answers.specs.Input.{IsLimit}
+use Rattle.expresso_reports.specs.inner.Judging.{IsFitsCheck, IsJudgement, IsReportJudged, IsRestJudged, judgement_status, judgement_text}
+use Rattle.expresso_reports.specs.inner.Saying.{IsSaid}
 use Rattle.expresso_answers.proofs.FirstFaults.{OneSpelling, OneTree}
 use Rattle.expresso_answers.proofs.OneFile.{no_rejection}
-use Rattle.expresso_answers.proofs.OneMonitor.{one_monitor}
-use Rattle.expresso_answers.proofs.Outcomes.{written_since}
-use Rattle.expresso_answers.proofs.Ending.{memory_ended, refused_ended, work_ended}
+use Rattle.expresso_answers.proofs.Ending.{work_ended}
+use Rattle.expresso_reports.proofs.Said.{said_ended}
 
 -- ---- `report`
-
-pub report_works : (file : List ℕ) (count fits : Bool) → WorksOn (report file count fits) file []
-report_works file count fits = record { files = refl; refused = λ held text is. is; accepted = λ held is. is }
 
 -- what is written of a placed plan is the text of its report
 abbrev pub PlacedTexts : Type 0
@@ -98,12 +95,6 @@ pub report_ended : (file : List ℕ) (count used fits : Bool) (files files_now :
 report_ended file count used fits files files_now result out out_now is ends = subst (λ (one : Bool). CommandEnds (report file one fits) files files_now result out out_now) (sym is) ends
 
 -- ---- `recheck`
-
-pub recheck_works : (monitor report_file : List ℕ) → WorksOn (recheck monitor report_file) monitor (report_file ∷ [])
-recheck_works monitor report_file = record { files = refl; refused = λ held text line. inl line; accepted = λ held accepts. monitor_accepted held accepts }
-  where
-    monitor_accepted : (held : List ℕ → Option (List ℕ)) → AcceptsReport held monitor report_file → AcceptsMonitor held monitor
-    monitor_accepted held (mb, rb, tree, parts, own, monitor_tells, report_tells, accepted, is) = (mb, tree, parts, monitor_tells, accepted)
 
 -- bytes that were read as a report are one of the monitor, with a certificate for each claim and question
 pub read_report_is : (monitor : MonitorParts) (bytes : List ℕ) (own : CountedReport) → IsCountedRead monitor bytes (Some own) → IsCountedReport monitor own
@@ -211,127 +202,57 @@ pub each_checked : (monitor : MonitorParts) (rest : List ℕ) (own : CountedRepo
 each_checked monitor rest own certs fits (Ok found) lines told = inl (fits, lines, told)
 each_checked monitor rest own certs fits (Err fault) lines told = tt
 
-rejected_short : (monitor : MonitorParts) (bytes : List ℕ) (verdict : Verdict) → IsRejected monitor bytes verdict → length bytes ≤ 16777216
-rejected_short monitor bytes verdict (inl is) = is.is.short
-rejected_short monitor bytes verdict (inr is) = is.is.short
+-- ---- a report that a line refuses is not accepted
+
+none_no_report : (monitor : MonitorParts) (bytes : List ℕ) (own : CountedReport) → IsNoReport monitor bytes → IsRechecked bytes monitor own → ⊥
+none_no_report monitor bytes own none file = by_none none.none
+  where
+    sides : (file.is.front ≡ none.front) × (file.is.rest ≡ none.rest)
+    sides = same_parts bytes file.is.front file.is.rest none.front none.rest file.is.parts none.parts
+
+    by_none : IsCountedRead monitor none.front None ⊎ ((any : CountedReport) × IsCountedRead monitor none.front (Some any) × IsCountedAccepted monitor any × AreFitsRead monitor none.rest None) → ⊥
+    by_none (inl unread) = not_none monitor none.front own (subst (λ (b : List ℕ). IsCountedRead monitor b (Some own)) sides.0 file.is.read) unread
+    by_none (inr (any, read, accepted, unread)) = unread file.fits file.lines.are (file.lines.text ∙ sides.1)
+
+rejected_no_report : (monitor : MonitorParts) (bytes : List ℕ) (own : CountedReport) (verdict : Verdict) → IsRejected monitor bytes verdict → IsRechecked bytes monitor own → ⊥
+rejected_no_report monitor bytes own verdict (inl is) file =
+    no_other monitor is.report verdict (subst (IsCountedAccepted monitor) (sym (one_report monitor bytes own is.report file.is is.is)) file.accepted) is.found is.rejected
+rejected_no_report monitor bytes own verdict (inr is) file =
+    let same : is.report ≡ own = one_report monitor bytes own is.report file.is is.is in
+    let fits : is.fits ≡ file.fits = one_list monitor file.is.rest is.is.rest file.fits is.fits (same_sides monitor bytes own is.report file.is is.is).1 file.lines is.lines in
+    let all : All (IsFit monitor is.report.plan.kept) is.fits =
+    subst (λ (some : List Fit). All (IsFit monitor is.report.plan.kept) some) (sym fits)
+    (subst (λ (report : CountedReport). All (IsFit monitor report.plan.kept) file.fits) (sym same) file.fitting) in
+    none-some is.place (sym (none_open monitor is.report.plan.kept is.fits (Some is.place) all is.open_there))
+
+line_no_report : (monitor : MonitorParts) (file bytes text : List ℕ) (own : CountedReport) → IsReportRefusalLine monitor file bytes text → IsRechecked bytes monitor own → ⊥
+line_no_report monitor file bytes text own (inl (long, is)) rechecked = omega (arith, long, rechecked.is.short)
+line_no_report monitor file bytes text own (inr (inl (short, none, is))) rechecked = none_no_report monitor bytes own none rechecked
+line_no_report monitor file bytes text own (inr (inr line)) rechecked = rejected_no_report monitor bytes own line.verdict line.is rechecked
 
 -- ---- what is said of it
 
-pub found_judged : (monitor : MonitorParts) (file bytes : List ℕ) (found : Judgement) (result : Status) (out out_now : SinkSeen) → length bytes ≤ 16777216 → IsJudgement monitor bytes found
-    → IsWritten (judgement_status found) (judgement_text monitor file found) result out out_now → IsJudged monitor file bytes result out out_now
-found_judged monitor file bytes (judgements.Accepted certs fits) result out out_now short is written =
-    inr (
-      verdict_text (verdicts.Accepted certs) ++ fitting_text monitor fits,
-      record {
-        report = is.report;
-        rechecked = is.rechecked;
-        printed =
-            ap (λ (n : ℕ). verdict_text (verdicts.Accepted n) ++ fitting_text monitor fits) is.many
-            ∙ ap (λ (some : List Fit). verdict_text (verdicts.Accepted (many_certs is.report)) ++ fitting_text monitor some) (sym is.same_fits);
-      },
-      written,
-    )
-found_judged monitor file bytes (judgements.Rejected verdict) result out out_now short is written =
-    inl (inr (verdict_text verdict, inr (inr (record { verdict = verdict; is = is; printed = refl })), written))
-found_judged monitor file bytes judgements.NoReport result out out_now short none written = inl (inr (not_report_text file, inr (inl (short, none, refl)), written))
+pub report_limit : (file : List ℕ) (fault : Fault) → fault_text fault ≡ other_too_long_text file → fault_status fault ≡ statuses.Refused → IsLimit as_report file 16777216 fault
+report_limit file fault says is = record { short = λ monitor bytes must. must.1.is.short; line = λ tree monitor bytes long. inl (long, says); status = is }
 
-pub long_judged : (monitor : MonitorParts) (file bytes : List ℕ) (result : Status) (out out_now : SinkSeen) → 16777216 < length bytes
-    → IsWritten statuses.Refused (other_too_long_text file) result out out_now → IsJudged monitor file bytes result out out_now
-long_judged monitor file bytes result out out_now long written = inl (inr (other_too_long_text file, inl (long, refl), written))
+found_said : (monitor : MonitorParts) (file bytes : List ℕ) (found : Judgement) → length bytes ≤ 16777216 → IsJudgement monitor bytes found
+    → IsSaid (IsAcceptanceLine monitor bytes) (IsReportRefusalLine monitor file bytes) (judgement_status found) (judgement_text monitor file found)
+found_said monitor file bytes (judgements.Accepted certs fits) short is = record {
+  report = is.report;
+  rechecked = is.rechecked;
+  printed =
+      ap (λ (n : ℕ). verdict_text (verdicts.Accepted n) ++ fitting_text monitor fits) is.many
+      ∙ ap (λ (some : List Fit). verdict_text (verdicts.Accepted (many_certs is.report)) ++ fitting_text monitor some) (sym is.same_fits);
+}
+found_said monitor file bytes (judgements.Rejected verdict) short is = inr (inr (record { verdict = verdict; is = is; printed = refl }))
+found_said monitor file bytes judgements.NoReport short none = inr (inl (short, none, refl))
 
-pub memory_judged : (monitor : MonitorParts) (file bytes : List ℕ) (out : SinkSeen) → IsJudged monitor file bytes statuses.OutOfMemory out out
-memory_judged monitor file bytes out = inl (inl (refl, refl))
-
-module _ (one_spelling : OneSpelling) (one_tree : OneTree) (monitor_file report_file bytes slice : List ℕ) (files : FilesSeen)
-    (same_bytes : slice ≡ bytes) (was_read : IsRead (files.held report_file) 16777216 bytes) (tree : MonitorTree) (monitor : MonitorParts) (holds : HoldsMonitor files.held monitor_file tree monitor) where
-  held : List ℕ
-  held = told (files.held report_file) slice
-
-  held_told : IfSome (files.held report_file) (λ all. all ≡ held)
-  unfolding held
-  held_told = is_told (files.held report_file) slice
-
-  read : IsRead (files.held report_file) 16777216 slice
-  read = subst (λ (b : List ℕ). IsRead (files.held report_file) 16777216 b) (sym same_bytes) was_read
-
-  short_held : length slice ≤ 16777216 → slice ≡ held
-  unfolding held
-  short_held short = read_short 16777216 (files.held report_file) slice read short
-
-  -- what is said of the bytes that were read is said of those that are held
-  line_held : (text : List ℕ) → IsReportRefusalLine monitor report_file slice text → IsReportRefusalLine monitor report_file held text
-  unfolding held
-  line_held text (inl (long, is)) = inl (held_long 16777216 (files.held report_file) slice read long, is)
-  line_held text (inr (inl (short, none, is))) = subst (λ (b : List ℕ). IsReportRefusalLine monitor report_file b text) (short_held short) (inr (inl (short, none, is)))
-  line_held text (inr (inr line)) =
-      subst (λ (b : List ℕ). IsReportRefusalLine monitor report_file b text) (short_held (rejected_short monitor slice line.verdict line.is)) (inr (inr line))
-
-  -- another monitor that the file holds is this one
-  one_held : (mb : List ℕ) (other : MonitorTree) (also : MonitorParts) → files.held monitor_file ≡ Some mb → IsAccepted mb other also → also ≡ monitor
-  one_held mb other also tells accepted =
-      let own : mb ≡ holds.bytes = sym (holds_same files.held monitor_file mb holds.bytes tells holds.told) in
-      one_monitor one_spelling one_tree holds.bytes other tree also monitor (subst (λ (b : List ℕ). IsAccepted b other also) own accepted) holds.accepted
-
-  same_report : (rb : List ℕ) → files.held report_file ≡ Some rb → held ≡ rb
-  unfolding held
-  same_report rb tells = holds_same files.held report_file rb (told (files.held report_file) slice) tells (is_told (files.held report_file) slice)
-
-  -- a file that a line refuses is not accepted
-  none_no_report : (own : CountedReport) → IsNoReport monitor held → IsRechecked held monitor own → ⊥
-  none_no_report own none file = by_none none.none
-    where
-      sides : (file.is.front ≡ none.front) × (file.is.rest ≡ none.rest)
-      sides = same_parts held file.is.front file.is.rest none.front none.rest file.is.parts none.parts
-
-      by_none : IsCountedRead monitor none.front None ⊎ ((any : CountedReport) × IsCountedRead monitor none.front (Some any) × IsCountedAccepted monitor any × AreFitsRead monitor none.rest None) → ⊥
-      by_none (inl unread) = not_none monitor none.front own (subst (λ (b : List ℕ). IsCountedRead monitor b (Some own)) sides.0 file.is.read) unread
-      by_none (inr (any, read, accepted, unread)) = unread file.fits file.lines.are (file.lines.text ∙ sides.1)
-
-  rejected_no_report : (own : CountedReport) (verdict : Verdict) → IsRejected monitor held verdict → IsRechecked held monitor own → ⊥
-  rejected_no_report own verdict (inl is) file =
-      no_other monitor is.report verdict (subst (IsCountedAccepted monitor) (sym (one_report monitor held own is.report file.is is.is)) file.accepted) is.found is.rejected
-  rejected_no_report own verdict (inr is) file =
-      let same : is.report ≡ own = one_report monitor held own is.report file.is is.is in
-      let fits : is.fits ≡ file.fits = one_list monitor file.is.rest is.is.rest file.fits is.fits (same_sides monitor held own is.report file.is is.is).1 file.lines is.lines in
-      let all : All (IsFit monitor is.report.plan.kept) is.fits =
-      subst (λ (some : List Fit). All (IsFit monitor is.report.plan.kept) some) (sym fits)
-      (subst (λ (report : CountedReport). All (IsFit monitor report.plan.kept) file.fits) (sym same) file.fitting) in
-      none-some is.place (sym (none_open monitor is.report.plan.kept is.fits (Some is.place) all is.open_there))
-
-  line_no_report : (text : List ℕ) (own : CountedReport) → IsReportRefusalLine monitor report_file held text → IsRechecked held monitor own → ⊥
-  line_no_report text own (inl (long, is)) file = omega (arith, long, file.is.short)
-  line_no_report text own (inr (inl (short, none, is))) file = none_no_report own none file
-  line_no_report text own (inr (inr line)) file = rejected_no_report own line.verdict line.is file
-
-  no_report : (text : List ℕ) → IsReportRefusalLine monitor report_file held text → AcceptsReport files.held monitor_file report_file → ⊥
-  no_report text line (mb, rb, other, also, own, monitor_tells, report_tells, accepted, is) =
-      let same : rb ≡ held = sym (same_report rb report_tells) in
-      let one : also ≡ monitor = one_held mb other also monitor_tells accepted in
-      line_no_report text own line (subst (λ (m : MonitorParts). IsRechecked held m own) one (subst (λ (b : List ℕ). IsRechecked b also own) same is))
-
-  not_rejected : (text : List ℕ) → IsAcceptanceLine monitor held text → RejectsReport files.held monitor_file report_file → ⊥
-  not_rejected text line (mb, rb, monitor_tells, report_tells, nothing) =
-      nothing tree monitor line.report
-      (subst (λ (b : List ℕ). IsAccepted b tree monitor) (holds_same files.held monitor_file mb holds.bytes monitor_tells holds.told) holds.accepted)
-      (subst (λ (b : List ℕ). IsRechecked b monitor line.report) (same_report rb report_tells) line.rechecked)
-
-  accepted_held : (text : List ℕ) → IsAcceptanceLine monitor slice text → IsAcceptanceLine monitor held text
-  accepted_held text line = subst (λ (b : List ℕ). IsAcceptanceLine monitor b text) (short_held line.rechecked.is.short) line
-
-  module _ (files_now : FilesSeen) (result : Status) (out mid out_now : SinkSeen) (steady : files_now.faults ≡ files.faults) (silent : mid ≡ out) where
-    judged_away : IsTurnedAway (IsReportRefusalLine monitor report_file slice) result mid out_now → CommandEnds (recheck monitor_file report_file) files files_now result out out_now
-    judged_away (inl (memory, nothing)) = memory_ended (recheck monitor_file report_file) files files_now result out out_now memory (nothing ∙ silent)
-    judged_away (inr (text, line, written)) =
-        refused_ended (recheck monitor_file report_file) files files_now text result out out_now
-        (inr (record { tree = tree; monitor = monitor; bytes = held; holds = holds; told = held_told; line = line_held text line }))
-        (no_report text (line_held text line)) steady (written_since statuses.Refused text result out mid out_now silent written)
-
-    judged_done : (text : List ℕ) → IsAcceptanceLine monitor slice text → IsWritten statuses.Done text result mid out_now → CommandEnds (recheck monitor_file report_file) files files_now result out out_now
-    judged_done text line written =
-        work_ended (recheck monitor_file report_file) files files_now text result out out_now true
-        (record { tree = tree; monitor = monitor; bytes = held; holds = holds; told = held_told; line = accepted_held text line })
-        (not_rejected text (accepted_held text line)) steady (written_since statuses.Done text result out mid out_now silent written)
-
-    pub judged_ended : IsJudged monitor report_file slice result mid out_now → CommandEnds (recheck monitor_file report_file) files files_now result out out_now
-    judged_ended (inl away) = judged_away away
-    judged_ended (inr (text, line, written)) = judged_done text line written
+pub judged_ended : OneSpelling → OneTree → (monitor_file report_file bytes slice : List ℕ) (files : FilesSeen) → slice ≡ bytes → HoldsBytes files.held report_file bytes → length bytes ≤ 16777216
+    → (tree : MonitorTree) (monitor : MonitorParts) → HoldsMonitor files.held monitor_file tree monitor
+    → (files_now : FilesSeen) (found : Judgement) (result : Status) (out mid out_now : SinkSeen) → files_now.faults ≡ files.faults → mid ≡ out → IsJudgement monitor slice found
+    → IsWritten (judgement_status found) (judgement_text monitor report_file found) result mid out_now → CommandEnds (recheck monitor_file report_file) files files_now result out out_now
+judged_ended one_spelling one_tree monitor_file report_file bytes slice files same holds_bytes short tree monitor holds files_now found result out mid out_now steady silent is written =
+    said_ended one_spelling one_tree as_report monitor_file report_file bytes slice files same holds_bytes tree monitor holds (λ one. IsAcceptanceLine)
+    (λ text line must. line_no_report monitor report_file slice text must.0 line must.1) (λ text line. (line.report, line.rechecked))
+    (recheck monitor_file report_file) refl (λ text is. is) files_now (judgement_status found) (judgement_text monitor report_file found) result out mid out_now steady silent
+    (found_said monitor report_file slice found (subst (λ (b : List ℕ). length b ≤ 16777216) (sym same) short) is) written

@@ -1,3 +1,4 @@
+pub mod Said
 pub mod Judged
 pub mod Fitted
 pub mod ReportLines

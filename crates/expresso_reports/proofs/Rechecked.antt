@@ -42,7 +42,8 @@ use Rattle.report_fits.proofs.FitLines.{certified_readable, read_again}
 use Rattle.report_fits.proofs.PartedTexts.{lines_parted, same_parts}
 use Rattle.expresso_answers.specs.MonitorFiles.{IsAccepted}
 use Rattle.expresso_answers.specs.ReportFiles.{IsAcceptance, IsAcceptanceLine, IsNoReport, IsRejected, IsReportFile, IsReportRefusalLine, many_certs}
-use Rattle.expresso_answers.specs.Answers.{HasFits, HoldsMonitor, IsCountedReportText, IsMonitorRefusal, IsRecheckRefusal, IsRecheckText, IsReportText}
+use Rattle.expresso_answers.specs.Answers.{HasFits, HoldsMonitor, IsCountedReportText, IsMonitorRefusal, IsOtherText, IsRefusedText, IsReportText}
+use Rattle.front_command.specs.CommandLine.{as_report, two_files}
 use Rattle.expresso_reports.specs.PrintedReports.{counted_many}
 use Rattle.expresso_answers.proofs.FirstFaults.{OneSpelling, NoSpelling, OneTree, no_line}
 use Rattle.expresso_reports.proofs.Judged.{CountedTexts, is_counting_of}
@@ -251,7 +252,7 @@ same_monitor one_spelling one_tree held later file own_tree tree own monitor hol
 module _ (one_spelling : OneSpelling) (no_spelling : NoSpelling) (one_tree : OneTree) (held later : List ℕ → Option (List ℕ)) (file report_file text : List ℕ)
     (tree : MonitorTree) (monitor : MonitorParts) (holds : HoldsMonitor held file tree monitor) (report : CountedReport) (certs : ℕ) (fits : List Fit)
     (surely : IsSurelyAccepted monitor text report certs fits) (short : length text ≤ 16777216) (same : later file ≡ Some holds.bytes) (there : later report_file ≡ Some text) where
-  pub none_refused : (line : List ℕ) → IsRecheckRefusal later file report_file line → ⊥
+  pub none_refused : (line : List ℕ) → IsRefusedText later (two_files as_report file report_file) line → ⊥
   none_refused line (inl refused) = no_monitor_line one_spelling no_spelling one_tree later file line holds.bytes tree monitor same holds.accepted refused
   none_refused line (inr refused) =
       let one = same_monitor one_spelling one_tree held later file tree refused.tree monitor refused.monitor holds same refused.holds in
@@ -260,7 +261,7 @@ module _ (one_spelling : OneSpelling) (no_spelling : NoSpelling) (one_tree : One
       (subst (λ (b : List ℕ). IsReportRefusalLine monitor report_file b line) bytes
       (subst (λ (m : MonitorParts). IsReportRefusalLine m report_file refused.bytes line) one refused.line))
 
-  pub line_of : (line : List ℕ) → IsRecheckText later file report_file line → line ≡ verdict_text (verdicts.Accepted certs) ++ fitting_text monitor fits
+  pub line_of : (line : List ℕ) → IsOtherText later (λ tree. IsAcceptanceLine) file report_file line → line ≡ verdict_text (verdicts.Accepted certs) ++ fitting_text monitor fits
   line_of line done =
       let one = same_monitor one_spelling one_tree held later file tree done.tree monitor done.monitor holds same done.holds in
       let bytes : done.bytes ≡ text = holds_same later report_file text done.bytes there done.told in

@@ -2,3 +2,4 @@ pub mod Auditing
 pub mod Explaining
 pub mod Fitting
 pub mod Judging
+pub mod Saying

@@ -6,7 +6,7 @@ ghost use Rattle.front_command.specs.CommandLine.{audit};
 ghost use Rattle.report_verdict.specs.Reports.{IsPlanOf};
 ghost use Rattle.expresso_answers.specs.Ending.{CommandEnds, IsWritten, KeepsFiles};
 ghost use Rattle.expresso_answers.specs.PlanFiles.{IsFailureBy, audit_text};
-ghost use Rattle.expresso_reports.specs.inner.Auditing.{IsAuditDone, IsFound, audit_status};
+ghost use Rattle.expresso_reports.specs.inner.Auditing.{IsFound, audit_status};
 ghost use Rattle.expresso_reports.specs.inner.Auditing.{found_status, found_text};
 
 use crate::text::{show_failing_finding, show_finding};
@@ -50,30 +50,20 @@ pub fn audit_files<F: Files, S: Sink>(
 {
     one_spelling();
     derives_one_tree();
-    let opened = match open_both(alloc, monitor, plan, OTHER_BYTES as u64, files, out) {
+    let opened = match open_both(
+        alloc,
+        monitor,
+        plan,
+        OTHER_BYTES,
+        &Fault::OtherTooLong { file: plan },
+        files,
+        out,
+    ) {
         Ok(opened) => opened,
         Err(status) => return status,
     };
-    judge(alloc, plan, count, &opened.bytes, &opened.found, out)
-}
-
-/// Writes what is to be said of the bytes of a plan's file.
-fn judge<S: Sink>(
-    alloc: Global,
-    file: &str,
-    count: bool,
-    bytes: &[u8],
-    held: &MonitorFile,
-    out: &mut S,
-) -> Status
-    ensures { IsAuditDone count held.now.tree held.now.monitor file.now bytes.now result
-        (S.seen out.old) (S.seen out.new) }
-{
-    if bytes.len() > OTHER_BYTES {
-        return show_fault(&Fault::OtherTooLong { file }, out);
-    }
-    match audited(alloc, &held.monitor, count, bytes) {
-        Ok(found) => show_judged(held, file, count, found, out),
+    match audited(alloc, &opened.found.monitor, count, &opened.bytes) {
+        Ok(found) => show_judged(&opened.found, plan, count, found, out),
         Err(AllocError) => Status::OutOfMemory,
     }
 }

@@ -5,7 +5,7 @@ ghost use Rattle.report_verdict.specs.declared.report.Verdict.TheVariants.{Accep
 ghost use Rattle.report_proofs.specs.ReportTexts.{verdict_text};
 ghost use Rattle.report_fits.specs.FitTexts.{certified};
 ghost use Rattle.report_fits.specs.FitVerdicts.{fitting_text};
-ghost use Rattle.front_command.specs.CommandLine.{audit, recheck};
+ghost use Rattle.front_command.specs.CommandLine.{audit, reads, recheck};
 ghost use Rattle.expresso_answers.specs.Answers.{IsDoneText, IsRefusedText};
 ghost use Rattle.expresso_reports.specs.CheckedPlans.{IsSafePlan, IsSafeReport};
 ghost use Rattle.expresso_reports.specs.PrintedReports.{IsPrintedCountedReport};
@@ -28,7 +28,7 @@ pub fn printed_reports_are_rechecked()
     ensures refusals { (held later : List ℕ → Option (List ℕ))
         (file report_file text line : List ℕ)
         → IsPrintedReport held later file report_file text
-        → IsRefusedText later (recheck file report_file) line → ⊥ }
+        → IsRefusedText later (reads (recheck file report_file)) line → ⊥ }
     ensures lines { (held later : List ℕ → Option (List ℕ))
         (file report_file text line : List ℕ)
         (is : IsPrintedReport held later file report_file text)
@@ -49,7 +49,7 @@ pub fn printed_counted_reports_are_rechecked()
     ensures refusals { (held later : List ℕ → Option (List ℕ))
         (file report_file text line : List ℕ)
         → IsPrintedCountedReport held later file report_file text
-        → IsRefusedText later (recheck file report_file) line → ⊥ }
+        → IsRefusedText later (reads (recheck file report_file)) line → ⊥ }
     ensures lines { (held later : List ℕ → Option (List ℕ))
         (file report_file text line : List ℕ)
         (is : IsPrintedCountedReport held later file report_file text)
@@ -69,7 +69,7 @@ pub fn printed_fits_are_rechecked()
     ensures refusals { (held later : List ℕ → Option (List ℕ))
         (file report_file text line : List ℕ)
         → IsPrintedFitsReport held later file report_file text
-        → IsRefusedText later (recheck file report_file) line → ⊥ }
+        → IsRefusedText later (reads (recheck file report_file)) line → ⊥ }
     ensures lines { (held later : List ℕ → Option (List ℕ))
         (file report_file text line : List ℕ)
         (is : IsPrintedFitsReport held later file report_file text)
@@ -79,7 +79,7 @@ pub fn printed_fits_are_rechecked()
     ensures counted_refusals { (held later : List ℕ → Option (List ℕ))
         (file report_file text line : List ℕ)
         → IsPrintedCountedFitsReport held later file report_file text
-        → IsRefusedText later (recheck file report_file) line → ⊥ }
+        → IsRefusedText later (reads (recheck file report_file)) line → ⊥ }
     ensures counted_lines { (held later : List ℕ → Option (List ℕ))
         (file report_file text line : List ℕ)
         (is : IsPrintedCountedFitsReport held later file report_file text)

@@ -7,9 +7,8 @@ ghost use Rattle.report_fits.specs.FitTexts.{AreFits};
 ghost use Rattle.report_verdict.specs.Verdicts.{plan_lines};
 ghost use Rattle.report_tally.specs.CountedReports.{IsCountedReport};
 ghost use Rattle.expresso_answers.specs.ReportFiles.{OTHER_BYTES, many_certs};
-ghost use Rattle.expresso_reports.specs.inner.Judging.{IsFitsCheck, IsJudged, IsJudgement};
-ghost use Rattle.expresso_reports.specs.inner.Judging.{IsRestJudged};
-ghost use Rattle.expresso_reports.specs.inner.Judging.{IsReportJudged, judgement_status};
+ghost use Rattle.expresso_reports.specs.inner.Judging.{IsFitsCheck, IsJudgement, IsReportJudged};
+ghost use Rattle.expresso_reports.specs.inner.Judging.{IsRestJudged, judgement_status};
 ghost use Rattle.expresso_reports.specs.inner.Judging.{judgement_text};
 
 use crate::fits_text::{show_acceptance, show_rejection};
@@ -53,22 +52,20 @@ pub fn recheck_files<F: Files, S: Sink>(
 {
     one_spelling();
     derives_one_tree();
-    let opened = match open_both(alloc, monitor, report, OTHER_BYTES as u64, files, out) {
+    let opened = match open_both(
+        alloc,
+        monitor,
+        report,
+        OTHER_BYTES,
+        &Fault::OtherTooLong { file: report },
+        files,
+        out,
+    ) {
         Ok(opened) => opened,
         Err(status) => return status,
     };
-    judge(alloc, report, &opened.bytes, &opened.found.monitor, out)
-}
-
-/// Writes what is to be said of the bytes of a report's file.
-fn judge<S: Sink>(alloc: Global, file: &str, bytes: &[u8], monitor: &Monitor, out: &mut S) -> Status
-    ensures { IsJudged monitor.now file.now bytes.now result (S.seen out.old) (S.seen out.new) }
-{
-    if bytes.len() > OTHER_BYTES {
-        return show_fault(&Fault::OtherTooLong { file }, out);
-    }
-    match judged(alloc, monitor, bytes) {
-        Ok(found) => show_judgement(monitor, file, &found, out),
+    match judged(alloc, &opened.found.monitor, &opened.bytes) {
+        Ok(found) => show_judgement(&opened.found.monitor, report, &found, out),
         Err(AllocError) => Status::OutOfMemory,
     }
 }

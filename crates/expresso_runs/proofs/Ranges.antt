@@ -3,7 +3,7 @@ use Rattle.std.proofs.Common.{ℕ, ◌≤◌, List, Option, Some, None, arith}
 use Rattle.lang_base.specs.Limits.{MOST_SPURIOUS, WORKERS}
 use Rattle.front_command.specs.declared.schedule.Schedule.{Schedule}
 use Rattle.front_command.specs.declared.schedule.Schedule.TheVariants.{Rounds, Drawn}
-use Rattle.front_command.specs.CommandLine.{Command, check, turns, compile, simulate, run, stress, report, recheck, block, audit, explain, emit, version, IsSchedule, IsSpurious, IsWorkers, Takes}
+use Rattle.front_command.specs.CommandLine.{Command, simulate, run, stress, IsSchedule, IsSpurious, IsWorkers, Takes}
 use Rattle.expresso_answers.specs.Simulations.{most_spurious}
 use Rattle.expresso_runs.specs.Ranges.{IsInRange}
 
@@ -20,16 +20,7 @@ few_workers None number is = (omega (arith, is), omega (arith, is))
 few_workers (Some word) number (is, some) = (some, is.within)
 
 pub in_range : (words : List (List ℕ)) (command : Command) → Takes words command → IsInRange command
-in_range words (check monitor) taken = tt
-in_range words (turns monitor clients) taken = tt
-in_range words (compile monitor choice) taken = tt
-in_range words (report monitor count fits) taken = tt
-in_range words (recheck monitor report_file) taken = tt
-in_range words (block monitor clients choice) taken = tt
-in_range words (audit monitor plan_file count) taken = tt
-in_range words (explain monitor count fits) taken = tt
-in_range words (emit monitor) taken = tt
-in_range words version taken = tt
 in_range words (simulate monitor clients schedule choice) (given, is, asks) = few_of_schedule given.seed given.spurious schedule (asks.has_options).0
 in_range words (run monitor clients workers choice) (given, is, asks) = few_workers given.workers workers (asks.has_options).1
 in_range words (stress number workers) (given, is, asks) = few_workers given.workers workers (asks.has_options).1
+in_range words command taken = tt

@@ -18,13 +18,9 @@ use Rattle.expresso_answers.specs.declared.status.Status.{Status}
 use Rattle.expresso_answers.specs.Simulations.{IsSimulation}
 use Rattle.expresso_answers.specs.Answers.{HoldRun, IsSimulateText}
 use Rattle.expresso_answers.specs.Ending.{CommandEnds, IsCommandText, IsWritten, ended}
-use Rattle.expresso_answers.specs.Input.{RunsFiles}
 use Rattle.expresso_runs.proofs.Finishing.{done_finished, finished_done}
-use Rattle.expresso_answers.proofs.RunFiles.{held_not_rejected}
+use Rattle.expresso_answers.proofs.OtherFile.{held_not_rejected}
 use Rattle.expresso_answers.proofs.Ending.{work_ended}
-
-pub simulate_runs : (monitor clients : List ℕ) (schedule : Schedule) (choice : PlanChoice) → RunsFiles (simulate monitor clients schedule choice) monitor clients
-simulate_runs monitor clients schedule choice = record { files = refl; refused = λ held text is. is; accepted = λ held is. is }
 
 module _ (monitor_file clients_file : List ℕ) (schedule : Schedule) (choice : PlanChoice) (files files_now : FilesSeen) (monitor : MonitorParts) (plan : Plan) (clients : List Client) (log : List Entry) (last : Configuration) (system : System)
     (held : HoldRun files.held monitor_file clients_file monitor clients) (simulation : IsSimulation choice (system_under monitor clients plan) schedule log last) (system_is : system ≡ system_under monitor clients plan) where

@@ -13,12 +13,8 @@ use Rattle.expresso_answers.specs.declared.status.Status.{Status}
 use Rattle.front_command.specs.CommandLine.{turns}
 use Rattle.expresso_answers.specs.Answers.{HoldRun, IsTurnsText}
 use Rattle.expresso_answers.specs.Ending.{CommandEnds, IsCommandText, IsWritten, ended}
-use Rattle.expresso_answers.specs.Input.{RunsFiles}
-use Rattle.expresso_answers.proofs.RunFiles.{held_not_rejected}
+use Rattle.expresso_answers.proofs.OtherFile.{held_not_rejected}
 use Rattle.expresso_answers.proofs.Ending.{work_ended}
-
-pub turns_runs : (monitor clients : List ℕ) → RunsFiles (turns monitor clients) monitor clients
-turns_runs monitor clients = record { files = refl; refused = λ held text is. is; accepted = λ held is. is }
 
 module _ (monitor_file clients_file : List ℕ) (files files_now : FilesSeen) (monitor : MonitorParts) (clients : List Client) (run : Turns)
     (held : HoldRun files.held monitor_file clients_file monitor clients) (rounds : AreTurnsByRounds monitor clients run) where

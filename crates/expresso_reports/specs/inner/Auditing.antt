@@ -1,6 +1,5 @@
 -- What is said of the bytes of a plan's file.
-use Rattle.std.specs.Prelude.{◌⊎◌, ℕ, Bool, List, Option, Some, None}
-use Rattle.base_io.specs.Outside.{SinkSeen}
+use Rattle.std.specs.Prelude.{ℕ, Bool, List, Option, Some, None}
 use Rattle.lang_tree.specs.declared.tree.MonitorTree.{MonitorTree}
 use Rattle.lang_monitor.specs.MonitorParts.{MonitorParts}
 use Rattle.report_proofs.specs.Readings.{IsPlanRead}
@@ -11,9 +10,7 @@ use Rattle.report_text.specs.FaultText.{not_plan_text}
 use Rattle.expresso_reports.specs.declared.audit.Found.{Found}
 use Rattle.expresso_answers.specs.declared.status.Status.{Status}
 use Rattle.expresso_answers.specs.declared.status.Status.TheVariants as statuses
-use Rattle.expresso_answers.specs.PlanFiles.{IsFailureBy, IsLawfulLine, IsPlanRefusalLine}
-use Rattle.expresso_answers.specs.PlanFiles.{audit_text}
-use Rattle.expresso_answers.specs.Ending.{IsTurnedAway, IsWritten}
+use Rattle.expresso_answers.specs.PlanFiles.{IsFailureBy, audit_text}
 
 -- the plan that the bytes are, what is found of it, and a failure of what that names, where signals
 -- may be counted or not
@@ -42,11 +39,3 @@ abbrev pub found_text : Bool → MonitorTree → MonitorParts → List ℕ → O
 found_text count tree monitor file (Some found) =
     audit_text count tree monitor found.plan found.finding found.failure
 found_text count tree monitor file None = not_plan_text file
-
--- the file was turned away, or its plan is lawful and the line that says so was written
-abbrev pub IsAuditDone : Bool → MonitorTree → MonitorParts → List ℕ → List ℕ → Status → SinkSeen
-    → SinkSeen → Type 0
-IsAuditDone count tree monitor file bytes result out out_now =
-    IsTurnedAway (IsPlanRefusalLine count tree monitor file bytes) result out out_now
-    ⊎ ((text : List ℕ) × IsLawfulLine count monitor bytes text
-    × IsWritten statuses.Done text result out out_now)

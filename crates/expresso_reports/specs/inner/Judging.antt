@@ -1,6 +1,5 @@
 -- What is said of the bytes of a report's file.
 use Rattle.std.specs.Prelude.{◌≡◌, ◌⊎◌, ◌++◌, ◌+◌, ℕ, List, All, Some, None}
-use Rattle.base_io.specs.Outside.{SinkSeen}
 use Rattle.lang_monitor.specs.MonitorParts.{MonitorParts}
 use Rattle.report_verdict.specs.declared.report.Verdict.{Verdict}
 use Rattle.report_verdict.specs.declared.report.Verdict.TheVariants as verdicts
@@ -16,10 +15,8 @@ use Rattle.expresso_answers.specs.declared.status.Status.{Status}
 use Rattle.expresso_answers.specs.declared.status.Status.TheVariants as statuses
 use Rattle.expresso_reports.specs.declared.recheck.Judgement.{Judgement}
 use Rattle.expresso_reports.specs.declared.recheck.Judgement.TheVariants as judgements
-use Rattle.expresso_answers.specs.ReportFiles.{IsAcceptance, IsAcceptanceLine, IsNoReport}
-use Rattle.expresso_answers.specs.ReportFiles.{IsRechecked}
-use Rattle.expresso_answers.specs.ReportFiles.{IsRejected, IsReportRefusalLine, many_certs}
-use Rattle.expresso_answers.specs.Ending.{IsTurnedAway, IsWritten}
+use Rattle.expresso_answers.specs.ReportFiles.{IsAcceptance, IsNoReport, IsRechecked, IsRejected}
+use Rattle.expresso_answers.specs.ReportFiles.{many_certs}
 
 -- a report whose certificates are these many is accepted, with these blocks
 pub record IsAcceptedWith (monitor : MonitorParts) (bytes : List ℕ) (certs : ℕ) (fits : List Fit) :
@@ -73,10 +70,3 @@ judgement_text monitor file (judgements.Accepted certs fits) =
     verdict_text (verdicts.Accepted certs) ++ fitting_text monitor fits
 judgement_text monitor file (judgements.Rejected verdict) = verdict_text verdict
 judgement_text monitor file judgements.NoReport = not_report_text file
-
--- the file was turned away, or its report is accepted and the line that says so was written
-abbrev pub IsJudged : MonitorParts → List ℕ → List ℕ → Status → SinkSeen → SinkSeen → Type 0
-IsJudged monitor file bytes result out out_now =
-    IsTurnedAway (IsReportRefusalLine monitor file bytes) result out out_now
-    ⊎ ((text : List ℕ) × IsAcceptanceLine monitor bytes text
-    × IsWritten statuses.Done text result out out_now)

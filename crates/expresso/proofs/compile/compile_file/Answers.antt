@@ -1,12 +1,13 @@
+use Rattle.std.proofs.Common.{refl}
 use Rattle.machine_events.specs.PlanText.{plan_text}
 use Rattle.expresso_answers.specs.declared.status.Status.TheVariants.{Done}
 use Rattle.front_command.specs.CommandLine.{compile}
-use Rattle.expresso.proofs.Compiled.{compile_done, compile_works}
+use Rattle.expresso.proofs.Compiled.{compile_done}
 use Rattle.expresso_answers.proofs.Outcomes.{written_since}
 use Rattle.expresso.proofs.compile.compile_file.Goals as goal
 
 pub returns-in-Err-clause-ended : goal.returns-in-Err-clause-ended
-returns-in-Err-clause-ended g c = c.in-Err.ensures.ended (compile c.args.file.now c.args.choice) (compile_works c.args.file.now c.args.choice)
+returns-in-Err-clause-ended g c = c.in-Err.ensures.ended (compile c.args.file.now c.args.choice) refl
 
 pub returns-in-Ok-plan_of-clause-ended : goal.returns-in-Ok-plan_of-clause-ended
 returns-in-Ok-plan_of-clause-ended g c =

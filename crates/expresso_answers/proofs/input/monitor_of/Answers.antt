@@ -1,6 +1,6 @@
-use Rattle.std.proofs.Common.{[]}
 use Rattle.std.proofs.lemmas.Result.{err_from_is_err_and}
-use Rattle.expresso_answers.proofs.OneFile.{each_held, file_judged, file_unread}
+use Rattle.front_command.specs.CommandLine.{one_file}
+use Rattle.expresso_answers.proofs.OneFile.{alone, each_held, file_judged, file_unread}
 use Rattle.expresso_answers.proofs.Outcomes.{still_quiet}
 use Rattle.expresso_answers.proofs.input.monitor_of.Goals as goal
 
@@ -8,7 +8,7 @@ pub returns-in_err-bytes-clause-ended : goal.returns-in_err-bytes-clause-ended
 returns-in_err-bytes-clause-ended g c =
     let returned = err_from_is_err_and c.from_residual.result c.from_residual.ensures.1 in
     rw (returned.1, returned.2)
-    (file_unread c.args.file.now [] (g.F.Files.seen c.args.files.now) (g.F.Files.seen c.bytes_of.new.files) _ (g.S.Sink.seen c.args.out.now) (g.S.Sink.seen c.bytes_of.new.out) c.in_err-bytes.ensures.unread)
+    (file_unread (one_file c.args.file.now) c.args.file.now (alone c.args.file.now) (g.F.Files.seen c.args.files.now) (g.F.Files.seen c.bytes_of.new.files) _ (g.S.Sink.seen c.args.out.now) (g.S.Sink.seen c.bytes_of.new.out) c.in_err-bytes.ensures.unread)
 
 pub returns-clause-holds : goal.returns-clause-holds
 returns-clause-holds g c =

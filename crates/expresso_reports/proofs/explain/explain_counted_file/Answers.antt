@@ -1,13 +1,13 @@
-use Rattle.std.proofs.Common.{true, false}
+use Rattle.std.proofs.Common.{true, false, refl}
 use Rattle.expresso_answers.specs.Texts.{count_explained_text}
 use Rattle.expresso_answers.specs.declared.status.Status.TheVariants.{Done}
 use Rattle.front_command.specs.CommandLine.{explain}
-use Rattle.expresso_reports.proofs.Explained.{count_explain_done, explain_works}
+use Rattle.expresso_reports.proofs.Explained.{count_explain_done}
 use Rattle.expresso_answers.proofs.Outcomes.{written_since}
 use Rattle.expresso_reports.proofs.explain.explain_counted_file.Goals as goal
 
 pub returns-in-Err-clause-ended : goal.returns-in-Err-clause-ended
-returns-in-Err-clause-ended g c = c.in-Err.ensures.ended (explain c.args.file.now true false) (explain_works c.args.file.now true false)
+returns-in-Err-clause-ended g c = c.in-Err.ensures.ended (explain c.args.file.now true false) refl
 
 pub returns-in-Ok-count_explanation_of-clause-ended : goal.returns-in-Ok-count_explanation_of-clause-ended
 returns-in-Ok-count_explanation_of-clause-ended g c =

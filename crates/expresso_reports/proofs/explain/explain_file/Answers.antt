@@ -1,13 +1,13 @@
-use Rattle.std.proofs.Common.{false}
+use Rattle.std.proofs.Common.{false, refl}
 use Rattle.expresso_answers.specs.Texts.{explained_text}
 use Rattle.expresso_answers.specs.declared.status.Status.TheVariants.{Done}
 use Rattle.front_command.specs.CommandLine.{explain}
-use Rattle.expresso_reports.proofs.Explained.{explain_done, explain_works}
+use Rattle.expresso_reports.proofs.Explained.{explain_done}
 use Rattle.expresso_answers.proofs.Outcomes.{written_since}
 use Rattle.expresso_reports.proofs.explain.explain_file.Goals as goal
 
 pub returns-in-Err-clause-ended : goal.returns-in-Err-clause-ended
-returns-in-Err-clause-ended g c = c.in-Err.ensures.ended (explain c.args.file.now false false) (explain_works c.args.file.now false false)
+returns-in-Err-clause-ended g c = c.in-Err.ensures.ended (explain c.args.file.now false false) refl
 
 pub returns-in-Ok-explanation_of-clause-ended : goal.returns-in-Ok-explanation_of-clause-ended
 returns-in-Ok-explanation_of-clause-ended g c =

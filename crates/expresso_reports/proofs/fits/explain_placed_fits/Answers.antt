@@ -1,4 +1,4 @@
-use Rattle.std.proofs.Common.{true, false, List, ◌++◌, ◌≤◌, length, subst, sym}
+use Rattle.std.proofs.Common.{true, false, List, ◌++◌, ◌≤◌, length, subst, sym, refl}
 use Rattle.lang_base.specs.Limits.{BLOCKS}
 use Rattle.lang_monitor.specs.declared.candidate.Candidate.{Candidate}
 use Rattle.lang_monitor.specs.Candidates.{AreSomeOf, candidates_of}
@@ -9,12 +9,11 @@ use Rattle.expresso_answers.specs.declared.status.Status.TheVariants.{Done}
 use Rattle.expresso_reports.specs.inner.Fitting.{AreFewReasons}
 use Rattle.front_command.specs.CommandLine.{explain}
 use Rattle.expresso_reports.proofs.Fitted.{explain_fits_done}
-use Rattle.expresso_reports.proofs.Explained.{explain_works}
 use Rattle.expresso_answers.proofs.Outcomes.{written_since}
 use Rattle.expresso_reports.proofs.fits.explain_placed_fits.Goals as goal
 
 pub returns-in-Err-clause-ended : goal.returns-in-Err-clause-ended
-returns-in-Err-clause-ended g c = c.in-Err.ensures.ended (explain c.args.file.now false true) (explain_works c.args.file.now false true)
+returns-in-Err-clause-ended g c = c.in-Err.ensures.ended (explain c.args.file.now false true) refl
 
 pub reasons_of-requires : goal.reasons_of-requires
 reasons_of-requires g c =

@@ -1,4 +1,4 @@
-use Rattle.std.proofs.Common.{true, false, List, Option, ◌++◌, ◌≤◌, length, subst, sym}
+use Rattle.std.proofs.Common.{true, false, List, Option, ◌++◌, ◌≤◌, length, subst, sym, refl}
 use Rattle.lang_base.specs.Limits.{BLOCKS}
 use Rattle.lang_monitor.specs.declared.candidate.Candidate.{Candidate}
 use Rattle.lang_monitor.specs.Candidates.{AreSomeOf, candidates_of}
@@ -9,12 +9,11 @@ use Rattle.expresso_answers.specs.declared.status.Status.TheVariants.{Done}
 use Rattle.expresso_reports.specs.inner.Fitting.{AreTypedAnswers}
 use Rattle.front_command.specs.CommandLine.{report}
 use Rattle.expresso_reports.proofs.Fitted.{report_fits_done}
-use Rattle.expresso_reports.proofs.Judged.{report_works}
 use Rattle.expresso_answers.proofs.Outcomes.{written_since}
 use Rattle.expresso_reports.proofs.fits.report_placed_fits.Goals as goal
 
 pub returns-in-Err-clause-ended : goal.returns-in-Err-clause-ended
-returns-in-Err-clause-ended g c = c.in-Err.ensures.ended (report c.args.file.now false true) (report_works c.args.file.now false true)
+returns-in-Err-clause-ended g c = c.in-Err.ensures.ended (report c.args.file.now false true) refl
 
 pub answers_of-requires : goal.answers_of-requires
 answers_of-requires g c =

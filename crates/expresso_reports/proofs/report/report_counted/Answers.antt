@@ -1,13 +1,13 @@
-use Rattle.std.proofs.Common.{true, false}
+use Rattle.std.proofs.Common.{true, false, refl}
 use Rattle.report_tally.specs.CountedTexts.{counted_text}
 use Rattle.expresso_answers.specs.declared.status.Status.TheVariants.{Done}
 use Rattle.front_command.specs.CommandLine.{report}
-use Rattle.expresso_reports.proofs.Judged.{counted_report_done, report_works}
+use Rattle.expresso_reports.proofs.Judged.{counted_report_done}
 use Rattle.expresso_answers.proofs.Outcomes.{written_since}
 use Rattle.expresso_reports.proofs.report.report_counted.Goals as goal
 
 pub returns-in-Err-clause-ended : goal.returns-in-Err-clause-ended
-returns-in-Err-clause-ended g c = c.in-Err.ensures.ended (report c.args.file.now true false) (report_works c.args.file.now true false)
+returns-in-Err-clause-ended g c = c.in-Err.ensures.ended (report c.args.file.now true false) refl
 
 pub show_counted_report-requires : goal.show_counted_report-requires
 show_counted_report-requires g c = c.in-Ok-counting_of.ensures.by.table.backed

@@ -1,13 +1,13 @@
-use Rattle.std.proofs.Common.{false}
+use Rattle.std.proofs.Common.{false, refl}
 use Rattle.report_proofs.specs.ReportTexts.{placed_text}
 use Rattle.expresso_answers.specs.declared.status.Status.TheVariants.{Done}
 use Rattle.front_command.specs.CommandLine.{report}
-use Rattle.expresso_reports.proofs.Judged.{report_done, report_works}
+use Rattle.expresso_reports.proofs.Judged.{report_done}
 use Rattle.expresso_answers.proofs.Outcomes.{written_since}
 use Rattle.expresso_reports.proofs.report.report_placed.Goals as goal
 
 pub returns-in-Err-clause-ended : goal.returns-in-Err-clause-ended
-returns-in-Err-clause-ended g c = c.in-Err.ensures.ended (report c.args.file.now false false) (report_works c.args.file.now false false)
+returns-in-Err-clause-ended g c = c.in-Err.ensures.ended (report c.args.file.now false false) refl
 
 pub returns-in-Ok-placed_of-clause-ended : goal.returns-in-Ok-placed_of-clause-ended
 returns-in-Ok-placed_of-clause-ended g c =

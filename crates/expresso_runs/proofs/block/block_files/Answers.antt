@@ -1,14 +1,15 @@
+use Rattle.std.proofs.Common.{refl}
 use Rattle.machine_events.specs.Configurations.{situation_of}
 use Rattle.report_text.specs.LogText.{are_done}
 use Rattle.report_text.specs.Laws.{plan_and_log_text}
 use Rattle.front_command.specs.CommandLine.{block}
 use Rattle.expresso_answers.specs.Ending.{ended}
 use Rattle.expresso_answers.proofs.Outcomes.{written_since}
-use Rattle.expresso_runs.proofs.Worked.{block_runs, called_ended}
+use Rattle.expresso_runs.proofs.Worked.{called_ended}
 use Rattle.expresso_runs.proofs.block.block_files.Goals as goal
 
 pub returns-in-Err-clause-ended : goal.returns-in-Err-clause-ended
-returns-in-Err-clause-ended g c = c.in-Err.ensures.ended (block c.args.monitor.now c.args.clients.now c.args.choice) (block_runs c.args.monitor.now c.args.clients.now c.args.choice)
+returns-in-Err-clause-ended g c = c.in-Err.ensures.ended (block c.args.monitor.now c.args.clients.now c.args.choice) refl
 
 pub returns-in-Ok-called-clause-ended : goal.returns-in-Ok-called-clause-ended
 returns-in-Ok-called-clause-ended g c =

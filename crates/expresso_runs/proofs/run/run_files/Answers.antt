@@ -1,15 +1,16 @@
+use Rattle.std.proofs.Common.{refl}
 use Rattle.machine_events.specs.Configurations.{situation_of}
 use Rattle.report_text.specs.LogText.{are_done}
 use Rattle.report_text.specs.Laws.{plan_and_log_text}
 use Rattle.front_command.specs.CommandLine.{run}
 use Rattle.expresso_answers.specs.Ending.{ended}
 use Rattle.expresso_answers.proofs.Outcomes.{written_since}
-use Rattle.expresso_runs.proofs.Worked.{run_runs, worked_ended}
+use Rattle.expresso_runs.proofs.Worked.{worked_ended}
 use Rattle.expresso_runs.proofs.run.run_files.Goals as goal
 
 pub returns-in-Err-clause-ended : goal.returns-in-Err-clause-ended
 returns-in-Err-clause-ended g c =
-    c.in-Err.ensures.ended (run c.args.monitor.now c.args.clients.now c.args.workers c.args.choice) (run_runs c.args.monitor.now c.args.clients.now c.args.workers c.args.choice)
+    c.in-Err.ensures.ended (run c.args.monitor.now c.args.clients.now c.args.workers c.args.choice) refl
 
 pub returns-in-Ok-worked-clause-ended : goal.returns-in-Ok-worked-clause-ended
 returns-in-Ok-worked-clause-ended g c =

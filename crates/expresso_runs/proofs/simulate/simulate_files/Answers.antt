@@ -1,10 +1,11 @@
+use Rattle.std.proofs.Common.{refl}
 use Rattle.machine_events.specs.Configurations.{situation_of}
 use Rattle.report_text.specs.LogText.{are_done}
 use Rattle.front_command.specs.CommandLine.{simulate}
 use Rattle.report_text.specs.Laws.{plan_and_log_text}
 use Rattle.expresso_answers.specs.Ending.{ended}
 use Rattle.expresso_answers.proofs.Outcomes.{written_since}
-use Rattle.expresso_runs.proofs.Simulated.{simulate_runs, simulation_closed, simulation_ended}
+use Rattle.expresso_runs.proofs.Simulated.{simulation_closed, simulation_ended}
 use Rattle.expresso_runs.proofs.simulate.simulate_files.Goals as goal
 
 pub show_plan_and_log-requires : goal.show_plan_and_log-requires
@@ -15,7 +16,7 @@ show_plan_and_log-requires g c =
 
 pub returns-in-Err-clause-ended : goal.returns-in-Err-clause-ended
 returns-in-Err-clause-ended g c =
-    c.in-Err.ensures.ended (simulate c.args.monitor.now c.args.clients.now c.args.schedule c.args.choice) (simulate_runs c.args.monitor.now c.args.clients.now c.args.schedule c.args.choice)
+    c.in-Err.ensures.ended (simulate c.args.monitor.now c.args.clients.now c.args.schedule c.args.choice) refl
 
 pub returns-in-Ok-simulation-clause-ended : goal.returns-in-Ok-simulation-clause-ended
 returns-in-Ok-simulation-clause-ended g c =

@@ -1,12 +1,13 @@
+use Rattle.std.proofs.Common.{refl}
 use Rattle.report_text.specs.TurnsText.{turns_text}
 use Rattle.front_command.specs.CommandLine.{turns}
 use Rattle.expresso_answers.specs.Ending.{ended}
 use Rattle.expresso_answers.proofs.Outcomes.{written_since}
-use Rattle.expresso_runs.proofs.TakenTurns.{run_ended, turns_runs}
+use Rattle.expresso_runs.proofs.TakenTurns.{run_ended}
 use Rattle.expresso_runs.proofs.turns.take_turns.Goals as goal
 
 pub returns-in-Err-clause-ended : goal.returns-in-Err-clause-ended
-returns-in-Err-clause-ended g c = c.in-Err.ensures.ended (turns c.args.monitor.now c.args.clients.now) (turns_runs c.args.monitor.now c.args.clients.now)
+returns-in-Err-clause-ended g c = c.in-Err.ensures.ended (turns c.args.monitor.now c.args.clients.now) refl
 
 pub returns-in-Ok-turns-clause-ended : goal.returns-in-Ok-turns-clause-ended
 returns-in-Ok-turns-clause-ended g c =

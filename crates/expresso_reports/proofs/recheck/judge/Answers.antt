@@ -1,8 +1,0 @@
-use Rattle.std.proofs.Common.{arith}
-use Rattle.expresso_reports.proofs.Judged.{found_judged}
-use Rattle.expresso_reports.proofs.recheck.judge.Goals as goal
-
-pub returns-in-Ok : goal.returns-in-Ok
-returns-in-Ok g c =
-    found_judged c.args.monitor.now c.args.file.now c.args.bytes.now c.in-Ok.found c.show_judgement.result (g.S.Sink.seen c.args.out.now) (g.S.Sink.seen c.show_judgement.new.out)
-    (omega (arith, c.if-bytes-gt-OTHER_BYTES.false)) c.in-Ok.ensures c.show_judgement.ensures
