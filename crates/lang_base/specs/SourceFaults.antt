@@ -33,9 +33,10 @@ rank refusals.TooLarge = 8
 rank (refusals.TooMany what) = 9 + counted_rank what
 rank refusals.ReadOnly = 16
 rank refusals.Misplaced = 17
-rank refusals.DuplicateClient = 18
-rank refusals.TooManyClients = 19
-rank refusals.TooManyCalls = 20
+rank refusals.WrongStart = 18
+rank refusals.DuplicateClient = 19
+rank refusals.TooManyClients = 20
+rank refusals.TooManyCalls = 21
 
 -- the rule is broken at this offset
 abbrev pub fault_at : Refusal → ℕ → SourceFault

@@ -19,7 +19,9 @@ pub enum Refusal {
     /// The token, or the end, doesn't fit the grammar.
     #[error("syntax")]
     Syntax,
-    /// A name is no constant or field, and no input or local of the method.
+    /// A name is no constant, parameter or field, and no input or local of the method; in the
+    /// condition of a parameter it is another one's, and as a start no earlier constant's or
+    /// parameter's.
     #[error("unknown name")]
     Unknown,
     /// A name is that of an earlier declaration, method, input or local.
@@ -44,12 +46,16 @@ pub enum Refusal {
     /// The first one over a limit of a monitor.
     #[error(transparent)]
     TooMany(Counted),
-    /// The target of an assignment is a constant or an input, and no field or local.
+    /// The target of an assignment is a constant, a parameter or an input, and no field or local.
     #[error("not a field")]
     ReadOnly,
     /// A `return` is not the last statement of its method's last block.
     #[error("misplaced return")]
     Misplaced,
+    /// The own number of a parameter doesn't meet its condition. At the number, not at its minus
+    /// sign.
+    #[error("wrong start")]
+    WrongStart,
     /// A client has the name of an earlier one. At the later name.
     #[error("client used twice")]
     DuplicateClient,
@@ -99,9 +105,10 @@ fn rank(what: Refusal) -> u32
         Refusal::TooMany(counted) => 9 + counted_rank(counted),
         Refusal::ReadOnly => 16,
         Refusal::Misplaced => 17,
-        Refusal::DuplicateClient => 18,
-        Refusal::TooManyClients => 19,
-        Refusal::TooManyCalls => 20,
+        Refusal::WrongStart => 18,
+        Refusal::DuplicateClient => 19,
+        Refusal::TooManyClients => 20,
+        Refusal::TooManyCalls => 21,
     }
 }
 

@@ -14,6 +14,9 @@ use Rattle.lang_tokens.specs.declared.token.TokenKind.TheVariants as kinds
 use Rattle.lang_tokens.specs.declared.token.Token.{Token}
 use Rattle.lang_tokens.specs.Spelling.{IsToken}
 use Rattle.lang_tokens.specs.Words.{Word, ident, numeral, mark}
+use Rattle.lang_tree.specs.declared.tree.LimitSign.{LimitSign}
+use Rattle.lang_tree.specs.declared.tree.LimitSign.TheVariants as signs
+use Rattle.lang_tree.specs.declared.tree.PlacedName.{PlacedName}
 use Rattle.lang_tree.specs.declared.tree.Op.{Op}
 use Rattle.lang_tree.specs.declared.tree.Op.TheVariants as ops
 use Rattle.lang_tree.specs.declared.tree.Expr.{Expr}
@@ -22,7 +25,6 @@ use Rattle.lang_tree.specs.declared.tree.Arg.{Arg}
 use Rattle.lang_tree.specs.declared.tree.Arg.TheVariants as args
 use Rattle.lang_cursor.specs.declared.fault.Stop.{Stop}
 use Rattle.lang_cursor.specs.declared.fault.Stop.TheVariants as stops
-use Rattle.lang_cursor.specs.declared.word.PlacedName.{PlacedName}
 use Rattle.lang_cursor.specs.declared.word.PlacedNumber.{PlacedNumber}
 use Rattle.lang_cursor.specs.Arguments.{plain}
 
@@ -225,6 +227,15 @@ op_of kinds.AtMost = Some ops.AtMost
 op_of kinds.More = Some ops.More
 op_of kinds.AtLeast = Some ops.AtLeast
 op_of kind = None
+
+-- how a parameter compares with its bound, by the sign
+abbrev pub limit_sign_of : TokenKind → Option LimitSign
+limit_sign_of kinds.Equal = Some signs.Equal
+limit_sign_of kinds.Less = Some signs.Less
+limit_sign_of kinds.AtMost = Some signs.AtMost
+limit_sign_of kinds.More = Some signs.More
+limit_sign_of kinds.AtLeast = Some signs.AtLeast
+limit_sign_of kind = None
 
 -- is it a minus, where it is a plus or a minus?
 abbrev pub minus_of : TokenKind → Option Bool

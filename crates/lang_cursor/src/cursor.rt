@@ -4,19 +4,19 @@ ghost use Rattle.std.specs.Prelude.{◌≡◌, ◌==◌, ℕ, List, length};
 ghost use Rattle.lang_tokens.specs.Words.{words};
 ghost use Rattle.lang_cursor.specs.Reading.{AreTokens, IsMarkKind, atom_at, begins};
 ghost use Rattle.lang_cursor.specs.Reading.{begins_ident, begins_listed, begins_spelled, ident_at};
-ghost use Rattle.lang_cursor.specs.Reading.{kind_of, listed_at, mark_at, minus_of, numeral_at};
-ghost use Rattle.lang_cursor.specs.Reading.{op_of, placed_at, plain_argument_at, spelled_at};
-ghost use Rattle.lang_cursor.specs.Reading.{truth_of};
+ghost use Rattle.lang_cursor.specs.Reading.{kind_of, limit_sign_of, listed_at, mark_at, minus_of};
+ghost use Rattle.lang_cursor.specs.Reading.{numeral_at, op_of, placed_at, plain_argument_at};
+ghost use Rattle.lang_cursor.specs.Reading.{spelled_at, truth_of};
 ghost use Rattle.lang_cursor.specs.Takes.{Takes};
 
 use super::fault::{Stop, stop_before};
 use super::word::{
-    PlacedName, PlacedNumber, is_kind, is_spelled, kind_of, minus_of, name_of, named, number,
+    PlacedNumber, is_kind, is_spelled, kind_of, limit_sign_of, minus_of, name_of, named, number,
     number_of, op_of, plain_argument, truth, truth_argument, truth_of,
 };
 use lang_base::Kind;
 use lang_tokens::{Token, TokenKind};
-use lang_tree::{Arg, Expr, Op};
+use lang_tree::{Arg, Expr, LimitSign, Op, PlacedName};
 use std::alloc::Global;
 use std::marker::Model;
 
@@ -257,6 +257,14 @@ impl<'a> Cursor<'a> {
         ensures { Takes result self.new (listed_at op_of self.old) }
     {
         listed!(self, op_of)
+    }
+
+    /// "==" | "<" | "<=" | ">" | ">="
+    #[tactic(auto, unfolding(crate::specs::Reading::listed_at, crate::specs::Reading::AreTokens))]
+    pub fn limit_sign(&mut self) -> Result<LimitSign, Stop>
+        ensures { Takes result self.new (listed_at limit_sign_of self.old) }
+    {
+        listed!(self, limit_sign_of)
     }
 
     /// "+" | "-": whether it is a minus.

@@ -13,4 +13,4 @@ mod word;
 pub use cursor::Cursor;
 pub use fault::{Stop, fault_of};
 pub use items::{many, with_first};
-pub use word::{PlacedName, PlacedNumber};
+pub use word::PlacedNumber;

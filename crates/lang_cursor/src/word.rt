@@ -5,19 +5,13 @@ ghost use Rattle.std.specs.Str.{bytes_eq};
 ghost use Rattle.lang_tokens.specs.Spelling.{IsDecimal, text_of};
 ghost use Rattle.lang_tokens.specs.Words.{decimal_value};
 ghost use Rattle.lang_cursor.specs.Arguments.{plain};
-ghost use Rattle.lang_cursor.specs.Reading.{is_kind, kind_of, minus_of, op_of, truth_of};
+ghost use Rattle.lang_cursor.specs.Reading.{is_kind, kind_of, limit_sign_of, minus_of, op_of};
+ghost use Rattle.lang_cursor.specs.Reading.{truth_of};
 
 use lang_base::{Kind, Name};
 use lang_tokens::{Token, TokenKind, decimal_value};
-use lang_tree::{Arg, Expr, Lit, Op};
+use lang_tree::{Arg, Expr, LimitSign, Lit, Op};
 use std::alloc::{AllocError, Global};
-
-/// An identifier and its offset.
-#[derive(Debug, Drop)]
-pub struct PlacedName {
-    pub at: u32,
-    pub name: Name,
-}
 
 /// A written number and its offset.
 #[derive(Clone, Copy, Debug)]
@@ -45,6 +39,20 @@ pub fn op_of(kind: TokenKind) -> Option<Op>
         TokenKind::AtMost => Some(Op::AtMost),
         TokenKind::More => Some(Op::More),
         TokenKind::AtLeast => Some(Op::AtLeast),
+        _ => None,
+    }
+}
+
+/// How a parameter compares with its bound.
+pub fn limit_sign_of(kind: TokenKind) -> Option<LimitSign>
+    ensures { result ≡ limit_sign_of kind }
+{
+    match kind {
+        TokenKind::Equal => Some(LimitSign::Equal),
+        TokenKind::Less => Some(LimitSign::Less),
+        TokenKind::AtMost => Some(LimitSign::AtMost),
+        TokenKind::More => Some(LimitSign::More),
+        TokenKind::AtLeast => Some(LimitSign::AtLeast),
         _ => None,
     }
 }

@@ -1,49 +1,54 @@
 -- A scope, made entry by entry.
-use Rattle.std.proofs.Common.{◌≡◌, ℕ, ◌+◌, ◌<◌, ◌≤◌, Bool, true, false, List, [], ◌∷◌, ◌++◌, length, get_or, take, refl, ap, sym, ◌∙◌, append_assoc, arith}
+use Rattle.std.proofs.Common.{◌≡◌, ℕ, ◌+◌, ◌<◌, ◌≤◌, false, List, [], ◌∷◌, ◌++◌, length, get_or, take, refl, ap, sym, ◌∙◌, append_assoc, arith}
 use Rattle.std.proofs.lemmas.List.{length-take, take_more}
-use mir.Val.{bool_byte}
 use Rattle.lang_tree.specs.declared.tree.Decl.{Decl}
 use Rattle.lang_tree.specs.declared.tree.Decl.TheVariants as decls
 use Rattle.lang_tree.specs.declared.tree.InputTree.{InputTree}
 use Rattle.lang_forms.specs.declared.scope.Entry.{Entry}
-use Rattle.lang_forms.specs.Scope.{declared_from, input_meaning, inputs_from}
+use Rattle.lang_forms.specs.Scope.{declared_from, field_count, input_meaning, inputs_from}
 
 -- the place of the next variable
 abbrev pub next_place : ℕ → List Decl → ℕ
 next_place place [] = place
 next_place place (decls.Const at name value ∷ more) = next_place place more
+next_place place (decls.Param at name value limit ∷ more) = next_place (place + 1) more
 next_place place (decls.Int at name value ∷ more) = next_place (place + 1) more
+next_place place (decls.Copied at name source ∷ more) = next_place (place + 1) more
 next_place place (decls.Flag at name value ∷ more) = next_place (place + 1) more
 
 declared_append : (place : ℕ) (front back : List Decl) → declared_from place (front ++ back) ≡ declared_from place front ++ declared_from (next_place place front) back
 declared_append place [] back = refl
 declared_append place (decls.Const at name value ∷ more) back = rw (declared_append place more back) refl
+declared_append place (decls.Param at name value limit ∷ more) back = rw (declared_append (place + 1) more back) refl
 declared_append place (decls.Int at name value ∷ more) back = rw (declared_append (place + 1) more back) refl
+declared_append place (decls.Copied at name source ∷ more) back = rw (declared_append (place + 1) more back) refl
 declared_append place (decls.Flag at name value ∷ more) back = rw (declared_append (place + 1) more back) refl
 
 next_append : (place : ℕ) (front back : List Decl) → next_place place (front ++ back) ≡ next_place (next_place place front) back
 next_append place [] back = refl
 next_append place (decls.Const at name value ∷ more) back = next_append place more back
+next_append place (decls.Param at name value limit ∷ more) back = next_append (place + 1) more back
 next_append place (decls.Int at name value ∷ more) back = next_append (place + 1) more back
+next_append place (decls.Copied at name source ∷ more) back = next_append (place + 1) more back
 next_append place (decls.Flag at name value ∷ more) back = next_append (place + 1) more back
-
-first_step : List Entry → ℕ
-first_step [] = 0
-first_step (entry ∷ more) = bool_byte entry.is_variable
 
 plus_no_step : (place : ℕ) → place ≡ place + 0
 plus_no_step place = omega arith
 
--- the place after an entry
-next_of_one : (place : ℕ) (decl : Decl) (entry : Entry) → declared_from place (decl ∷ []) ≡ entry ∷ [] → next_place place (decl ∷ []) ≡ place + bool_byte entry.is_variable
-unfolding first_step
-next_of_one place (decls.Const at name value) entry is = plus_no_step place ∙ ap (λ entries. place + first_step entries) is
-next_of_one place (decls.Int at name value) entry is = ap (λ entries. place + first_step entries) is
-next_of_one place (decls.Flag at name value) entry is = ap (λ entries. place + first_step entries) is
+-- the place after a declaration
+next_of_one : (place : ℕ) (decl : Decl) → next_place place (decl ∷ []) ≡ place + field_count (decl ∷ [])
+next_of_one place (decls.Const at name value) = plus_no_step place
+next_of_one place (decls.Param at name value limit) = refl
+next_of_one place (decls.Int at name value) = refl
+next_of_one place (decls.Copied at name source) = refl
+next_of_one place (decls.Flag at name value) = refl
 
-step_is_at_most_1 : (is_variable : Bool) → bool_byte is_variable ≤ 1
-step_is_at_most_1 true = omega arith
-step_is_at_most_1 false = omega arith
+step_is_at_most_1 : (decl : Decl) → field_count (decl ∷ []) ≤ 1
+step_is_at_most_1 (decls.Const at name value) = omega arith
+step_is_at_most_1 (decls.Param at name value limit) = omega arith
+step_is_at_most_1 (decls.Int at name value) = omega arith
+step_is_at_most_1 (decls.Copied at name source) = omega arith
+step_is_at_most_1 (decls.Flag at name value) = omega arith
 
 take_one_more : {X : Type 0} (xs : List X) (i : ℕ) (x : X) → i < length xs → x ≡ get_or xs i x → take (i + 1) xs ≡ take i xs ++ x ∷ []
 take_one_more xs i x lt is = take_more xs i x lt ∙ ap (λ y. take i xs ++ y ∷ []) (sym is)
@@ -54,16 +59,16 @@ pub record Declared (before : List Entry) (first : ℕ) (decls : List Decl) (i :
   pub next : place ≡ next_place first (take i decls)
   pub few : place ≤ first + i
 
-pub declared_more : (before : List Entry) (first : ℕ) (decls : List Decl) (i : ℕ) (entries : List Entry) (place : ℕ) (decl : Decl) (entry : Entry) (more : List Entry) (next : ℕ) → Declared before first decls i entries place → i < length decls → decl ≡ get_or decls i decl → declared_from place (decl ∷ []) ≡ entry ∷ [] → more ≡ entries ++ entry ∷ [] → next ≡ place + bool_byte entry.is_variable → Declared before first decls (i + 1) more next
+pub declared_more : (before : List Entry) (first : ℕ) (decls : List Decl) (i : ℕ) (entries : List Entry) (place : ℕ) (decl : Decl) (entry : Entry) (more : List Entry) (next : ℕ) → Declared before first decls i entries place → i < length decls → decl ≡ get_or decls i decl → declared_from place (decl ∷ []) ≡ entry ∷ [] → more ≡ entries ++ entry ∷ [] → next ≡ place + field_count (decl ∷ []) → Declared before first decls (i + 1) more next
 declared_more before first decls i entries place decl entry more next so_far lt is one more_is next_is =
     let taken = take_one_more decls i decl lt is in
     let few = so_far.few in
-    let step = step_is_at_most_1 entry.is_variable in
+    let step = step_is_at_most_1 decl in
     let all : before ++ declared_from first (take (i + 1) decls) ≡ (before ++ declared_from first (take i decls)) ++ entry ∷ [] =
     rw (taken, declared_append first (take i decls) (decl ∷ []), ← so_far.next, one, append_assoc) refl in
     record {
       made = more_is ∙ ap (λ front. front ++ entry ∷ []) so_far.made ∙ sym all;
-      next = next_is ∙ rw (taken, next_append first (take i decls) (decl ∷ []), ← so_far.next) (sym (next_of_one place decl entry one));
+      next = next_is ∙ rw (taken, next_append first (take i decls) (decl ∷ []), ← so_far.next) (sym (next_of_one place decl));
       few = omega arith;
     }
 

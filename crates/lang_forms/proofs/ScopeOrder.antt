@@ -43,7 +43,11 @@ inputs_rise place (input ∷ more) later rise =
 declared_rise : (place : ℕ) (declared : List Decl) (later : List Entry) → RiseFrom (place + field_count declared) (places_of later) → RiseFrom place (places_of (declared_from place declared ++ later))
 declared_rise place [] later rise = from_lower place (place + 0) (places_of later) (omega arith) rise
 declared_rise place (decls.Const at name value ∷ more) later rise = declared_rise place more later rise
+declared_rise place (decls.Param at name value limit ∷ more) later rise =
+    (omega arith, declared_rise (place + 1) more later (from_lower (place + 1 + field_count more) (place + (1 + field_count more)) (places_of later) (omega arith) rise))
 declared_rise place (decls.Int at name value ∷ more) later rise =
+    (omega arith, declared_rise (place + 1) more later (from_lower (place + 1 + field_count more) (place + (1 + field_count more)) (places_of later) (omega arith) rise))
+declared_rise place (decls.Copied at name source ∷ more) later rise =
     (omega arith, declared_rise (place + 1) more later (from_lower (place + 1 + field_count more) (place + (1 + field_count more)) (places_of later) (omega arith) rise))
 declared_rise place (decls.Flag at name value ∷ more) later rise =
     (omega arith, declared_rise (place + 1) more later (from_lower (place + 1 + field_count more) (place + (1 + field_count more)) (places_of later) (omega arith) rise))
@@ -51,7 +55,9 @@ declared_rise place (decls.Flag at name value ∷ more) later rise =
 locals_rise : (place : ℕ) (locals : List Decl) → RiseFrom place (places_of (declared_from place locals))
 locals_rise place [] = tt
 locals_rise place (decls.Const at name value ∷ more) = locals_rise place more
+locals_rise place (decls.Param at name value limit ∷ more) = (omega arith, locals_rise (place + 1) more)
 locals_rise place (decls.Int at name value ∷ more) = (omega arith, locals_rise (place + 1) more)
+locals_rise place (decls.Copied at name source ∷ more) = (omega arith, locals_rise (place + 1) more)
 locals_rise place (decls.Flag at name value ∷ more) = (omega arith, locals_rise (place + 1) more)
 
 -- With at most 16 fields and 6 inputs the places of a scope rise strictly.

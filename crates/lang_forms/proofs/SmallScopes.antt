@@ -38,13 +38,17 @@ inputs_small place (input ∷ more) later small = rw (input_small input.kind pla
 declared_small : (place : ℕ) (declared : List Decl) (later : List Entry) → has_small_numbers later ≡ true → has_small_numbers (declared_from place declared ++ later) ≡ true
 declared_small place [] later small = small
 declared_small place (decls.Const at name value ∷ more) later small = rw (constant_small value) (declared_small place more later small)
+declared_small place (decls.Param at name value limit ∷ more) later small = declared_small (place + 1) more later small
 declared_small place (decls.Int at name value ∷ more) later small = declared_small (place + 1) more later small
+declared_small place (decls.Copied at name source ∷ more) later small = declared_small (place + 1) more later small
 declared_small place (decls.Flag at name value ∷ more) later small = declared_small (place + 1) more later small
 
 locals_small : (place : ℕ) (locals : List Decl) → has_small_numbers (declared_from place locals) ≡ true
 locals_small place [] = refl
 locals_small place (decls.Const at name value ∷ more) = rw (constant_small value) (locals_small place more)
+locals_small place (decls.Param at name value limit ∷ more) = locals_small (place + 1) more
 locals_small place (decls.Int at name value ∷ more) = locals_small (place + 1) more
+locals_small place (decls.Copied at name source ∷ more) = locals_small (place + 1) more
 locals_small place (decls.Flag at name value ∷ more) = locals_small (place + 1) more
 
 pub scopes_are_small : (declared : List Decl) (method : MethodTree) → has_small_numbers (scope_of declared method) ≡ true

@@ -19,13 +19,15 @@ abbrev pub signed : Bool → ℤ → ℤ
 signed true number = neg_ℤ number
 signed false number = number
 
+-- the number that is written
+abbrev pub literal_value : Lit → ℤ
+literal_value literal = signed literal.minus (pos literal.digits)
+
 -- What a constant stands for. A number that is too large is refused where it is written, and
 -- stands for 0 elsewhere.
 abbrev pub constant_value : Lit → ℤ
 constant_value literal =
-    if nat_le literal.digits GREATEST_NUMBER
-    then signed literal.minus (pos literal.digits)
-    else pos 0
+    if nat_le literal.digits GREATEST_NUMBER then literal_value literal else pos 0
 
 abbrev pub constant_entry : List ℕ → Lit → Entry
 constant_entry name value = record {
@@ -34,26 +36,41 @@ constant_entry name value = record {
   is_variable = false;
 }
 
+-- a number that is chosen when the monitor is opened: it has the place of a field, and nothing
+-- assigns to it
+abbrev pub parameter_entry : List ℕ → ℕ → Entry
+parameter_entry name place = record {
+  name = name;
+  meaning = meanings.Int place;
+  is_variable = false;
+}
+
 -- a field, or a local
 abbrev pub variable_entry : List ℕ → Meaning → Entry
 variable_entry name meaning = record { name = name; meaning = meaning; is_variable = true }
 
--- The names of declarations: the variables among them have the places from the given one on, in
--- file order.
+-- The names of declarations: the parameters and variables among them have the places from the given
+-- one on, in file order.
 abbrev pub declared_from : ℕ → List Decl → List Entry
 declared_from place [] = []
 declared_from place (decls.Const at name value ∷ more) =
     constant_entry name value ∷ declared_from place more
+declared_from place (decls.Param at name value limit ∷ more) =
+    parameter_entry name place ∷ declared_from (place + 1) more
 declared_from place (decls.Int at name value ∷ more) =
+    variable_entry name (meanings.Int place) ∷ declared_from (place + 1) more
+declared_from place (decls.Copied at name source ∷ more) =
     variable_entry name (meanings.Int place) ∷ declared_from (place + 1) more
 declared_from place (decls.Flag at name value ∷ more) =
     variable_entry name (meanings.Flag place) ∷ declared_from (place + 1) more
 
--- how many of the declarations are fields
+-- how many of the declarations are fields, parameters among them
 abbrev pub field_count : List Decl → ℕ
 field_count [] = 0
 field_count (decls.Const at name value ∷ more) = field_count more
+field_count (decls.Param at name value limit ∷ more) = 1 + field_count more
 field_count (decls.Int at name value ∷ more) = 1 + field_count more
+field_count (decls.Copied at name source ∷ more) = 1 + field_count more
 field_count (decls.Flag at name value ∷ more) = 1 + field_count more
 
 abbrev pub input_meaning : Kind → ℕ → Meaning

@@ -20,5 +20,5 @@ pub use first_fault::{fault_in, large_number};
 pub use lang_base::{Counted, Kind};
 pub use laws::{forms_keep_meaning, least_is_least, scope_is_ordered, scope_numbers_are_small};
 pub use making::{form_of, formula_of};
-pub use scope::{Entry, Meaning, find, scope_of};
+pub use scope::{Entry, Meaning, find, number_of, places_of, scope_of};
 pub use whole_fault::wrong_type;

@@ -2,10 +2,10 @@
 
 ghost use Rattle.std.specs.Prelude.{◌≡◌, ◌++◌, ◌≤◌, [], ◌∷◌, IfOk, length};
 ghost use Rattle.std.specs.Str.{bytes_eq};
-ghost use Rattle.lang_base.specs.Limits.{FILE_BYTES, FIRST_LOCAL};
+ghost use Rattle.lang_base.specs.Limits.{FILE_BYTES, FIRST_LOCAL, GREATEST_NUMBER};
 ghost use Rattle.lang_forms.specs.Forms.{meaning_place};
-ghost use Rattle.lang_forms.specs.Scope.{constant_value, declared_from, index_of, input_entries};
-ghost use Rattle.lang_forms.specs.Scope.{input_meaning, scope_of};
+ghost use Rattle.lang_forms.specs.Scope.{constant_value, declared_from, field_count, index_of};
+ghost use Rattle.lang_forms.specs.Scope.{input_entries, input_meaning, literal_value, scope_of};
 
 use base_list::Seq;
 use lang_base::{Kind, Name, limits};
@@ -33,7 +33,8 @@ impl Meaning {
     }
 }
 
-/// A name of a scope. A variable, a field or a local, may be assigned.
+/// A name of a scope. A variable, a field or a local, may be assigned; a parameter has a field's
+/// place and is none.
 #[derive(Debug, Drop)]
 pub struct Entry {
     pub name: Name,
@@ -61,7 +62,7 @@ pub fn scope_of(
     Ok(Seq::of(scope))
 }
 
-/// The variables among the declarations have the places from the first one on.
+/// The parameters and variables among the declarations have the places from the first one on.
 fn push_declared(scope: &mut Vec<Entry>, first: u32, decls: &[Decl]) -> Result<(), AllocError>
     requires few { length decls.now ≤ FILE_BYTES }
     requires low { first ≤ FIRST_LOCAL }
@@ -71,13 +72,26 @@ fn push_declared(scope: &mut Vec<Entry>, first: u32, decls: &[Decl]) -> Result<(
     let mut place = first;
     for decl in decls {
         let entry = declared_entry(decl, place)?;
-        place += u32::from(entry.is_variable);
+        place += places_of(decl);
         scope.push(entry)?;
     }
     Ok(())
 }
 
-/// The entry of a declaration, at this place if it is a variable.
+/// How many places a declaration takes. A constant takes none.
+pub fn places_of(decl: &Decl) -> u32
+    ensures { result ≡ field_count (decl.now ∷ []) }
+{
+    match decl {
+        Decl::Const { .. } => 0,
+        Decl::Param { .. } => 1,
+        Decl::Int { .. } => 1,
+        Decl::Copied { .. } => 1,
+        Decl::Flag { .. } => 1,
+    }
+}
+
+/// The entry of a declaration, at this place if it is no constant.
 fn declared_entry(decl: &Decl, place: u32) -> Result<Entry, AllocError>
     ensures { IfOk result (λ entry. declared_from place (decl.now ∷ []) ≡ entry ∷ []) }
 {
@@ -87,7 +101,17 @@ fn declared_entry(decl: &Decl, place: u32) -> Result<Entry, AllocError>
             meaning: Meaning::Number(constant_value(value)),
             is_variable: false,
         }),
+        Decl::Param { name, .. } => Ok(Entry {
+            name: name.clone()?,
+            meaning: Meaning::Int { place },
+            is_variable: false,
+        }),
         Decl::Int { name, .. } => Ok(Entry {
+            name: name.clone()?,
+            meaning: Meaning::Int { place },
+            is_variable: true,
+        }),
+        Decl::Copied { name, .. } => Ok(Entry {
             name: name.clone()?,
             meaning: Meaning::Int { place },
             is_variable: true,
@@ -131,6 +155,15 @@ fn constant_value(literal: &Lit) -> i64
         Ok(number) => if literal.minus { -number } else { number },
         Err(_) => 0,
     }
+}
+
+/// The number that a literal stands for, where it is not too large.
+pub fn number_of(literal: &Lit) -> i64
+    requires { literal.now.digits ≤ GREATEST_NUMBER }
+    ensures { result ≡ literal_value literal.now }
+{
+    let magnitude = literal.digits as i64;
+    if literal.minus { -magnitude } else { magnitude }
 }
 
 /// The index of the first entry of a name.

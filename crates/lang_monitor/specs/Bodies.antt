@@ -1,7 +1,7 @@
 -- What a body does, over whole numbers without bounds, when it overflows, and which triples are
 -- valid.
-use Rattle.std.specs.Prelude.{◌≡◌, ℕ, ◌+◌, ◌-◌, ◌^◌, ℤ, pos, neg_ℤ, int_le, int_lt, Bool, true}
-use Rattle.std.specs.Prelude.{false, not, ◌&&◌, ◌||◌, nat_lt, List, [], ◌∷◌, Option, Some, None}
+use Rattle.std.specs.Prelude.{◌≡◌, ℕ, ◌+◌, ◌-◌, ℤ, pos, Bool, true}
+use Rattle.std.specs.Prelude.{false, not, ◌||◌, nat_lt, List, [], ◌∷◌, Option, Some, None}
 use Rattle.std.specs.Prelude.{unwrap_or, slice_set, if◌then◌else◌}
 use Rattle.logic_linear.specs.Linear.{Linear}
 use Rattle.logic_linear.specs.declared.formula.Formula.{Formula}
@@ -12,6 +12,7 @@ use Rattle.lang_base.specs.Limits.{FIRST_INPUT, FIRST_LOCAL}
 use Rattle.lang_base.specs.declared.kind.Kind.{Kind}
 use Rattle.lang_base.specs.declared.kind.Kind.TheVariants as kinds
 use Rattle.lang_monitor.specs.MonitorParts.{Places, at_place}
+pub use Rattle.lang_monitor.specs.Starts.{fits_64}
 use Rattle.lang_base.specs.declared.value.Value.{Value}
 use Rattle.lang_base.specs.declared.value.Value.TheVariants as values
 use Rattle.lang_monitor.specs.declared.monitor.Stmt.{Stmt}
@@ -52,11 +53,6 @@ valuation state inputs =
     }
 
 -- ---- bodies
-
--- the value is within 64 bits
-abbrev pub fits_64 : Value → Bool
-fits_64 (values.Int number) = int_le (neg_ℤ (pos (2 ^ 63))) number && int_lt number (pos (2 ^ 63))
-fits_64 (values.Bool truth) = true
 
 -- what statements change: the state and the locals
 pub record Memory : Type 0 where

@@ -18,6 +18,9 @@ use Rattle.lang_base.specs.declared.value.Value.{Value}
 use Rattle.lang_monitor.specs.declared.monitor.Field.{Field}
 use Rattle.lang_monitor.specs.declared.monitor.Block.{Block}
 use Rattle.lang_monitor.specs.MonitorParts.{MonitorParts}
+use Rattle.lang_monitor.specs.declared.start.Origin.{Origin}
+use Rattle.lang_monitor.specs.declared.start.Origin.TheVariants as origins
+use Rattle.lang_monitor.specs.Starts.{limit_number}
 use Rattle.lang_monitor.specs.Bodies.{number_of_value, valuation, no_inputs}
 
 -- ---- what a candidate says
@@ -77,10 +80,16 @@ distinct (number ∷ numbers) =
 abbrev pub MOST_BOUNDS : ℕ
 MOST_BOUNDS = 12
 
--- 0, the number at the start, and those around the bounds in guards, blocks in order
-abbrev pub pool : List Block → ℕ → ℤ → List ℤ
-pool blocks field start =
-    take MOST_BOUNDS (distinct (pos 0 ∷ start ∷ flat_map (guard_bounds field) blocks))
+-- what is known of the number at the start: a field's own, or the bound of a parameter's limit
+abbrev pub own_numbers : Value → Origin → List ℤ
+own_numbers start origins.Own = number_of_value start ∷ []
+own_numbers start (origins.Chosen limit) = limit_number limit ∷ []
+own_numbers start (origins.Copied parameter) = []
+
+-- 0, the own numbers, and those around the bounds in guards, blocks in order
+abbrev pub pool : List Block → ℕ → List ℤ → List ℤ
+pool blocks field own =
+    take MOST_BOUNDS (distinct (pos 0 ∷ (own ++ flat_map (guard_bounds field) blocks)))
 
 -- ---- the candidates
 
@@ -88,16 +97,16 @@ pool blocks field start =
 abbrev pub bounded : ℕ → ℤ → List Candidate
 bounded field bound = candidates.AtMost field bound ∷ candidates.AtLeast field bound ∷ []
 
-abbrev pub kind_candidates : List Block → ℕ → ℤ → Kind → List Candidate
-kind_candidates blocks field start kinds.Int = flat_map (bounded field) (pool blocks field start)
-kind_candidates blocks field start kinds.Bool =
+abbrev pub kind_candidates : List Block → ℕ → List ℤ → Kind → List Candidate
+kind_candidates blocks field own kinds.Int = flat_map (bounded field) (pool blocks field own)
+kind_candidates blocks field own kinds.Bool =
     candidates.Flag field true ∷ candidates.Flag field false ∷ []
 
 -- of each field by itself, the first of them with this number
 abbrev pub field_candidates : List Block → ℕ → List Field → List Candidate
 field_candidates blocks number [] = []
 field_candidates blocks number (field ∷ fields) =
-    kind_candidates blocks number (number_of_value field.start) field.kind
+    kind_candidates blocks number (own_numbers field.start field.origin) field.kind
     ++ field_candidates blocks (number + 1) fields
 
 abbrev pub int_number : ℕ → Kind → List ℕ

@@ -28,6 +28,9 @@ use Rattle.lang_monitor.specs.declared.monitor.Block.{Block}
 use Rattle.lang_monitor.specs.declared.monitor.Condition.{Condition}
 use Rattle.lang_monitor.specs.Conditions.{HasCondition, IsDescribed, HasFirstBlock}
 use Rattle.lang_monitor.specs.Statements.{every_part}
+use Rattle.lang_monitor.specs.declared.start.Origin.{Origin}
+use Rattle.lang_monitor.specs.declared.start.Origin.TheVariants as origins
+use Rattle.lang_monitor.specs.Starts.{IsStart, limit_number, started}
 
 pub record MonitorParts : Type 0 where
   pub name : List ℕ
@@ -209,6 +212,28 @@ abbrev pub names_of : MonitorParts → List (List ℕ)
 names_of monitor =
     map (λ field. field.name) monitor.fields ++ map (λ method. method.name) monitor.methods
 
+-- the origin is a number that is chosen
+abbrev pub IsChosen : Origin → Type 0
+IsChosen origins.Own = ⊥
+IsChosen (origins.Chosen limit) = Unit {0}
+IsChosen (origins.Copied parameter) = ⊥
+
+-- what is chosen or copied is an int, the magnitude of a limit's number is at most 2^64, and what
+-- is copied is a parameter's
+abbrev pub HasOrigin : List Field → Kind → Origin → Type 0
+HasOrigin fields kind origins.Own = Unit {0}
+HasOrigin fields kind (origins.Chosen limit) =
+    (kind ≡ kinds.Int) × (is_within (2 ^ 64) (limit_number limit) ≡ true)
+HasOrigin fields kind (origins.Copied parameter) =
+    (kind ≡ kinds.Int)
+    × IsSomeAnd (slice_get fields parameter) (λ source. IsChosen source.origin)
+
+-- the monitor as it is opened with these values
+abbrev pub opened_with : MonitorParts → List Value → MonitorParts
+opened_with monitor start =
+    parts monitor.name (started monitor.fields start) monitor.methods monitor.blocks
+    monitor.conditions
+
 pub record IsMonitor (monitor : MonitorParts) : Type 0 where
   pub few_fields : length monitor.fields ≤ FIELDS
   pub few_methods : length monitor.methods ≤ METHODS
@@ -218,6 +243,8 @@ pub record IsMonitor (monitor : MonitorParts) : Type 0 where
   pub names : All IsIdentifier (names_of monitor)
   pub distinct : AllPairs (λ name other. name ≢ other) (names_of monitor)
   pub starts : All (λ field. IsOfKind field.kind field.start) monitor.fields
+  pub origins : All (λ field. HasOrigin monitor.fields field.kind field.origin) monitor.fields
+  pub opens : IsStart monitor.fields (start_of monitor)
   pub methods : (number : ℕ) (method : Method)
       → slice_get monitor.methods number ≡ Some method → IsMethod monitor number method
   pub in_turn : AreInTurn 0 monitor.methods monitor.blocks

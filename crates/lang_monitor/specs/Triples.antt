@@ -1,5 +1,5 @@
 -- When queries are valid, what each claim says, and when a list of candidates is inductive.
-use Rattle.std.specs.Prelude.{ℕ, ◌<◌, List, All, length, slice_get, IsSomeAnd}
+use Rattle.std.specs.Prelude.{◌≡◌, ℕ, ◌<◌, true, false, List, All, length, slice_get, IsSomeAnd}
 use Rattle.logic_linear.specs.declared.formula.Formula.TheVariants as formulas
 use Rattle.lang_monitor.specs.declared.candidate.Candidate.{Candidate}
 use Rattle.lang_monitor.specs.declared.claim.Claim.{Claim}
@@ -8,7 +8,9 @@ use Rattle.lang_monitor.specs.declared.monitor.Block.{Block}
 pub use Rattle.lang_monitor.specs.MonitorParts.{kinds_in, start_of}
 use Rattle.lang_monitor.specs.MonitorParts.{MonitorParts, Places, method_places}
 use Rattle.lang_monitor.specs.Bodies.{IsValid}
-use Rattle.lang_monitor.specs.Candidates.{AllHold}
+use Rattle.lang_monitor.specs.Candidates.{AllHold, candidate_truth}
+use Rattle.lang_base.specs.declared.value.Value.{Value}
+use Rattle.lang_monitor.specs.Starts.{IsStart}
 use Rattle.lang_monitor.specs.Queries.{keeps_query, none_needed_query, one_enough_query}
 use Rattle.lang_monitor.specs.Queries.{no_test_query, query_of}
 
@@ -51,8 +53,24 @@ Holds monitor kept claim = IsValidQuery monitor (query_of monitor kept claim)
 
 -- ---- inductive lists
 
+-- each is true at the start, whatever the monitor is opened with
+abbrev pub HoldAtStart : MonitorParts → List Candidate → Type 0
+HoldAtStart monitor kept =
+    (start : List Value) → IsStart monitor.fields start → AllHold start kept
+
+-- the candidate is true at the start, whatever the monitor is opened with
+abbrev pub IsTrueAtStart : MonitorParts → Candidate → Type 0
+IsTrueAtStart monitor candidate =
+    (start : List Value) → IsStart monitor.fields start → candidate_truth start candidate ≡ true
+
+-- the monitor may be opened with values at which the candidate is false
+abbrev pub IsFalseAtStart : MonitorParts → Candidate → Type 0
+IsFalseAtStart monitor candidate =
+    (start : List Value)
+    × IsStart monitor.fields start × (candidate_truth start candidate ≡ false)
+
 -- the candidates are true at the start, and each block keeps each of them under all
 pub record IsInductive (monitor : MonitorParts) (kept : List Candidate) : Type 0 where
-  pub starts : AllHold (start_of monitor) kept
+  pub starts : HoldAtStart monitor kept
   pub keeps : (block : ℕ) → block < length monitor.blocks
       → All (λ candidate. Keeps monitor kept candidate block) kept

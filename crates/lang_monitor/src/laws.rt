@@ -1,9 +1,14 @@
 //! What follows from the definitions alone.
 
-ghost use Rattle.std.specs.Prelude.{◌≡◌, ◌↔◌, ℕ, ◌<◌, ◌≤◌, true, All, Any, Some, length, slice_get};
+ghost use Rattle.std.specs.Prelude.{◌≡◌, ◌↔◌, ℕ, ◌<◌, ◌≤◌, true, All, Any, Some, length, slice_get, List};
 ghost use Rattle.lang_monitor.specs.declared.monitor.Block.{Block};
 ghost use Rattle.lang_monitor.specs.Conditions.{IsFirstBlock, ShareCondition};
 ghost use Rattle.lang_monitor.specs.MonitorParts.{MonitorParts, IsMonitor, asserts_in};
+ghost use Rattle.lang_monitor.specs.MonitorParts.{opened_with, start_of};
+ghost use Rattle.lang_base.specs.declared.value.Value.{Value};
+ghost use Rattle.lang_monitor.specs.declared.candidate.Candidate.{Candidate};
+ghost use Rattle.lang_monitor.specs.Starts.{IsStart};
+ghost use Rattle.lang_monitor.specs.Triples.{IsInductive};
 
 /// Conditions are the classes of the blocks that wait and have equal guards, and are numbered from
 /// 1 by their first blocks: two such blocks have one condition exactly where their guards are
@@ -23,4 +28,16 @@ pub fn conditions_are_classes()
     ensures asserts { (monitor : MonitorParts) (number : ℕ) (block : Block) → IsMonitor monitor
         → slice_get monitor.blocks number ≡ Some block
         → (block.condition ≡ 0) ↔ (asserts_in (slice_get monitor.methods block.method) ≡ true) }
+{}
+
+/// What a monitor is opened with may be chosen: opened with values with which it may be opened, it
+/// is a monitor that starts with these, and what is inductive stays so.
+pub fn monitors_may_be_opened()
+    ensures monitor { (monitor : MonitorParts) (start : List Value) → IsMonitor monitor
+        → IsStart monitor.fields start → IsMonitor (opened_with monitor start) }
+    ensures start { (monitor : MonitorParts) (start : List Value)
+        → IsStart monitor.fields start → start_of (opened_with monitor start) ≡ start }
+    ensures inductive { (monitor : MonitorParts) (start : List Value) (kept : List Candidate)
+        → IsStart monitor.fields start → IsInductive monitor kept
+        → IsInductive (opened_with monitor start) kept }
 {}

@@ -2,17 +2,20 @@
 
 ghost use Rattle.std.specs.Prelude.{◌≡◌};
 
+use super::start::Origin;
 use base_list::Seq;
 use lang_base::{Kind, Name, Value};
 use logic_linear::{Formula, Lin, Put};
 use std::marker::Model;
 
-/// A field, with its value at the start.
+/// A field, with its value at the start where nothing is chosen, and whence it has that. A
+/// parameter is a field to which no body assigns.
 #[derive(Debug, Drop)]
 pub struct Field {
     pub name: Name,
     pub kind: Kind,
     pub start: Value,
+    pub origin: Origin,
 }
 
 /// A method: the kinds of its inputs, the values of its locals at the start of a call, and its

@@ -4,6 +4,9 @@ use Rattle.std.specs.Prelude.{decimal, replicate, if◌then◌else◌}
 use Rattle.std.specs.List.{flat_map}
 pub use Rattle.lang_base.specs.Texts.{joined}
 use Rattle.lang_tree.specs.declared.tree.Lit.{Lit}
+use Rattle.lang_tree.specs.declared.tree.LimitSign.{LimitSign}
+use Rattle.lang_tree.specs.declared.tree.LimitSign.TheVariants as signs
+use Rattle.lang_tree.specs.declared.tree.LimitTree.{LimitTree}
 use Rattle.lang_tree.specs.declared.tree.Decl.{Decl}
 use Rattle.lang_tree.specs.declared.tree.Decl.TheVariants as decls
 use Rattle.lang_base.specs.declared.kind.Kind.{Kind}
@@ -121,12 +124,28 @@ statement_text = fold-StmtTree (ℕ → List ℕ) statement_step
 
 -- ---- files
 
+abbrev pub limit_sign_text : LimitSign → List ℕ
+limit_sign_text signs.Equal = codes " == "
+limit_sign_text signs.Less = codes " < "
+limit_sign_text signs.AtMost = codes " <= "
+limit_sign_text signs.More = codes " > "
+limit_sign_text signs.AtLeast = codes " >= "
+
+-- the condition of a parameter
+abbrev pub limit_text : LimitTree → List ℕ
+limit_text limit = limit.subject.name ++ limit_sign_text limit.sign ++ literal_text limit.bound
+
 -- a declaration, from its first word on
 abbrev pub declared_text : Decl → List ℕ
 declared_text (decls.Const at name value) =
     codes "const " ++ name ++ codes " = " ++ literal_text value ++ codes ";\n"
+declared_text (decls.Param at name value limit) =
+    codes "param " ++ name ++ codes " = " ++ literal_text value ++ codes " where ("
+    ++ limit_text limit ++ codes ");\n"
 declared_text (decls.Int at name value) =
     codes "int " ++ name ++ codes " = " ++ literal_text value ++ codes ";\n"
+declared_text (decls.Copied at name source) =
+    codes "int " ++ name ++ codes " = " ++ source.name ++ codes ";\n"
 declared_text (decls.Flag at name value) =
     codes "bool " ++ name ++ codes " = " ++ truth_text value ++ codes ";\n"
 

@@ -5,6 +5,7 @@ ghost use Rattle.std.specs.List.{flat_map};
 ghost use Rattle.lang_printer.specs.Canonical.{tree_text, declared_text, guarded_text, lines_text};
 ghost use Rattle.lang_printer.specs.Canonical.{blocks_text, method_text, input_texts, kind_text};
 ghost use Rattle.lang_printer.specs.Canonical.{literal_text, minus_text, opening_text, joined};
+ghost use Rattle.lang_printer.specs.Canonical.{limit_sign_text, limit_text};
 ghost use Rattle.lang_printer.specs.Depths.{levels};
 ghost use Rattle.base_io.specs.Writing.{Wrote};
 
@@ -19,7 +20,7 @@ use depth::Depth;
 use expressions::{truth_bytes, write_around};
 use itoa::Buffer;
 use lang_base::{Kind, Name};
-use lang_tree::{BlockTree, Decl, InputTree, Lit, MethodTree, MonitorTree};
+use lang_tree::{BlockTree, Decl, InputTree, LimitSign, LimitTree, Lit, MethodTree, MonitorTree};
 use statements::write_block;
 
 /// Writes a monitor in canonical form, piece by piece. It takes no memory.
@@ -67,26 +68,97 @@ fn write_declared<S: Sink>(declaration: &Decl, out: &mut S) -> Result<(), SinkFa
     ensures { Wrote (S.seen out.old) (S.seen out.new) result (declared_text declaration.now) }
 {
     match declaration {
-        Decl::Const { name, value, .. } => write_number(b"const ", name, *value, out),
-        Decl::Int { name, value, .. } => write_number(b"int ", name, *value, out),
+        Decl::Const { name, value, .. } => write_number(b"const ", name, *value, b";\n", out),
+        Decl::Param {
+            name,
+            value,
+            limit,
+            ..
+        } => write_parameter(name, *value, limit, out),
+        Decl::Int { name, value, .. } => write_number(b"int ", name, *value, b";\n", out),
+        Decl::Copied { name, source, .. } => {
+            write_valued(b"int ", name, b"", source.name.bytes(), b";\n", out)
+        }
         Decl::Flag { name, value, .. } => {
-            write_valued(b"bool ", name, b"", truth_bytes(*value), out)
+            write_valued(b"bool ", name, b"", truth_bytes(*value), b";\n", out)
         }
     }
 }
 
+fn write_parameter<S: Sink>(
+    name: &Name,
+    value: Lit,
+    limit: &LimitTree,
+    out: &mut S,
+) -> Result<(), SinkFailed>
+    ensures { Wrote (S.seen out.old) (S.seen out.new) result
+        (codes "param " ++ name.now ++ codes " = " ++ literal_text value ++ codes " where ("
+        ++ limit_text limit.now ++ codes ");\n") }
+{
+    write_number(b"param ", name, value, b" where (", out)?;
+    write_limit(&limit.subject.name, limit.sign, limit.bound, out)
+}
+
+// The condition of a parameter, and what ends its line.
+fn write_limit<S: Sink>(
+    subject: &Name,
+    sign: LimitSign,
+    bound: Lit,
+    out: &mut S,
+) -> Result<(), SinkFailed>
+    ensures { Wrote (S.seen out.old) (S.seen out.new) result
+        (subject.now ++ limit_sign_text sign ++ literal_text bound ++ codes ");\n") }
+{
+    let mut buffer = Buffer::new();
+    let digits = buffer.format(bound.digits).as_bytes();
+    write_compared(
+        subject,
+        limit_sign_bytes(sign),
+        minus_bytes(bound.minus),
+        digits,
+        out,
+    )
+}
+
+fn write_compared<'a, S: Sink>(
+    subject: &'a Name,
+    sign: &'a [u8],
+    minus: &'a [u8],
+    digits: &'a [u8],
+    out: &mut S,
+) -> Result<(), SinkFailed>
+    ensures { Wrote (S.seen out.old) (S.seen out.new) result
+        (subject.now ++ sign.now ++ (minus.now ++ digits.now) ++ codes ");\n") }
+{
+    write_pieces(&[subject.bytes(), sign, minus, digits, b");\n"], out)
+}
+
+fn limit_sign_bytes(sign: LimitSign) -> &'static [u8]
+    ensures { result.now ≡ limit_sign_text sign }
+{
+    match sign {
+        LimitSign::Equal => b" == ",
+        LimitSign::Less => b" < ",
+        LimitSign::AtMost => b" <= ",
+        LimitSign::More => b" > ",
+        LimitSign::AtLeast => b" >= ",
+    }
+}
+
+// A name and a number, with what stands before and after them.
 fn write_number<S: Sink>(
     kind: &[u8],
     name: &Name,
     value: Lit,
+    after: &[u8],
     out: &mut S,
 ) -> Result<(), SinkFailed>
     ensures { Wrote (S.seen out.old) (S.seen out.new) result
-        (kind.now ++ name.now ++ codes " = " ++ literal_text value ++ codes ";\n") }
+        (kind.now ++ name.now ++ codes " = " ++ literal_text value ++ after.now) }
 {
     let mut buffer = Buffer::new();
     let digits = buffer.format(value.digits).as_bytes();
-    write_valued(kind, name, minus_bytes(value.minus), digits, out)
+    write_valued(kind, name, minus_bytes(value.minus), digits, after, out)
 }
 
 fn write_valued<'a, S: Sink>(
@@ -94,12 +166,13 @@ fn write_valued<'a, S: Sink>(
     name: &'a Name,
     minus: &'a [u8],
     value: &'a [u8],
+    after: &'a [u8],
     out: &mut S,
 ) -> Result<(), SinkFailed>
     ensures { Wrote (S.seen out.old) (S.seen out.new) result
-        (kind.now ++ name.now ++ codes " = " ++ (minus.now ++ value.now) ++ codes ";\n") }
+        (kind.now ++ name.now ++ codes " = " ++ (minus.now ++ value.now) ++ after.now) }
 {
-    write_pieces(&[kind, name.bytes(), b" = ", minus, value, b";\n"], out)
+    write_pieces(&[kind, name.bytes(), b" = ", minus, value, after], out)
 }
 
 fn minus_bytes(minus: bool) -> &'static [u8]

@@ -84,20 +84,28 @@ slice_get-counted_ok (p ∷ places) (suc left) rest is =
 
 pub constant_here : (decl : Decl) → declares_constant decl ≡ true → constant_place decl ≡ (declared_name decl).at ∷ []
 constant_here (decls.Const at name value) is = refl
+constant_here (decls.Param at name value limit) is = cc
 constant_here (decls.Int at name value) is = cc
+constant_here (decls.Copied at name source) is = cc
 constant_here (decls.Flag at name value) is = cc
 
 pub no_constant_here : (decl : Decl) → declares_constant decl ≡ false → constant_place decl ≡ []
 no_constant_here (decls.Const at name value) is = cc
+no_constant_here (decls.Param at name value limit) is = refl
 no_constant_here (decls.Int at name value) is = refl
+no_constant_here (decls.Copied at name source) is = refl
 no_constant_here (decls.Flag at name value) is = refl
 
 pub field_here : (decl : Decl) → declares_constant decl ≡ false → field_place decl ≡ (declared_name decl).at ∷ []
 field_here (decls.Const at name value) is = cc
+field_here (decls.Param at name value limit) is = refl
 field_here (decls.Int at name value) is = refl
+field_here (decls.Copied at name source) is = refl
 field_here (decls.Flag at name value) is = refl
 
 pub no_field_here : (decl : Decl) → declares_constant decl ≡ true → field_place decl ≡ []
 no_field_here (decls.Const at name value) is = refl
+no_field_here (decls.Param at name value limit) is = cc
 no_field_here (decls.Int at name value) is = cc
+no_field_here (decls.Copied at name source) is = cc
 no_field_here (decls.Flag at name value) is = cc

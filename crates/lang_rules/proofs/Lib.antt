@@ -10,4 +10,5 @@ pub mod NameRules
 pub mod StatementRules
 pub mod BlockRules
 pub mod MethodRules
+pub mod StartRules
 pub mod TreeRules

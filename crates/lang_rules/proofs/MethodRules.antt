@@ -35,7 +35,12 @@ large_in literal decl fault has large = record { at = literal.at; is = large.is;
 
 from_literal : (decl : Decl) (fault : SourceFault) → Contains (literal_faults decl) fault → LargeValue decl fault
 from_literal (decls.Const at name value) fault within = large_in value (decls.Const at name value) fault (λ place large. large) (from_large_number value.at value.digits fault within)
+from_literal (decls.Param at name value limit) fault within = elim (Contains-append_cases (large_number value.at value.digits) (large_number limit.bound.at limit.bound.digits) fault within) [
+  | inl own ↦ large_in value (decls.Param at name value limit) fault (λ place large. inl large) (from_large_number value.at value.digits fault own)
+  | inr bound ↦ large_in limit.bound (decls.Param at name value limit) fault (λ place large. inr large) (from_large_number limit.bound.at limit.bound.digits fault bound)
+]
 from_literal (decls.Int at name value) fault within = large_in value (decls.Int at name value) fault (λ place large. large) (from_large_number value.at value.digits fault within)
+from_literal (decls.Copied at name source) fault within = none_in fault within
 from_literal (decls.Flag at name value) fault within = none_in fault within
 
 written_number_in : (place : ℕ) (literal : Lit) → IsLargeLiteral place literal → Contains (large_number literal.at literal.digits) (fault_at refusals.TooLarge place)
@@ -43,7 +48,12 @@ written_number_in place literal (is, large) = subst (λ at. Contains (large_numb
 
 in_literal : (place : ℕ) (decl : Decl) → IsLargeValue place decl → Contains (literal_faults decl) (fault_at refusals.TooLarge place)
 in_literal place (decls.Const at name value) large = written_number_in place value large
+in_literal place (decls.Param at name value limit) (inl large) =
+    Contains-append_left (large_number value.at value.digits) (large_number limit.bound.at limit.bound.digits) (fault_at refusals.TooLarge place) (written_number_in place value large)
+in_literal place (decls.Param at name value limit) (inr large) =
+    Contains-append_right (large_number value.at value.digits) (large_number limit.bound.at limit.bound.digits) (fault_at refusals.TooLarge place) (written_number_in place limit.bound large)
 in_literal place (decls.Int at name value) large = written_number_in place value large
+in_literal place (decls.Copied at name source) large = absurd large
 in_literal place (decls.Flag at name value) large = absurd large
 
 -- one of the declarations has too large a number

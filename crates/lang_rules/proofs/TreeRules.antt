@@ -12,22 +12,25 @@ use Rattle.lang_base.specs.SourceFaults.{fault_at}
 use Rattle.lang_base.specs.declared.source_fault.SourceFault.{SourceFault}
 use Rattle.lang_base.specs.declared.source_fault.Refusal.{Refusal}
 use Rattle.lang_base.specs.declared.source_fault.Refusal.TheVariants as refusals
-use Rattle.lang_rules.specs.Rules.{constant_place, declared_names, faults_in_literals, faults_in_methods, faults_of, field_place, method_faults, method_names, over, repeated}
-use Rattle.lang_rules.specs.Judgements.{Breaks, HasLargeLiteral, IsFirstOver, Repeats}
+use Rattle.lang_rules.specs.Rules.{constant_place, declared_names, faults_in_literals, faults_in_methods, faults_in_sources, faults_in_starts, faults_of, field_place, method_faults, method_names, over, repeated, start_faults, subject_faults}
+use Rattle.lang_rules.specs.Judgements.{Breaks, HasLargeLiteral, HasOtherSubject, HasUnknownSource, HasWrongStart, IsFirstOver, Repeats}
 use Rattle.lang_base.proofs.Members.{from_flat_map, in_flat_map}
 use Rattle.lang_rules.proofs.NameRules.{from_repeated, in_repeated}
 use Rattle.lang_rules.proofs.BlockRules.{from_over, in_over}
 use Rattle.lang_rules.proofs.MethodRules.{MethodCases, from_literals, from_method, in_literals, method_in}
+use Rattle.lang_rules.proofs.StartRules.{from_sources, from_subjects, from_wrong_starts, in_sources, in_subjects, in_wrong_starts}
 
 -- ---- files
 
 -- a file breaks the rule of a fault, as a file
 abbrev FileRule : MonitorTree → Refusal → ℕ → Type 0
+FileRule tree refusals.Unknown at = HasOtherSubject at tree.decls ⊎ HasUnknownSource at tree.decls
 FileRule tree refusals.Duplicate at = Repeats [] at (declared_names tree.decls ++ method_names tree.methods)
 FileRule tree refusals.TooLarge at = HasLargeLiteral at tree.decls
 FileRule tree (refusals.TooMany counted.Constants) at = IsFirstOver CONSTANTS at (flat_map constant_place tree.decls)
 FileRule tree (refusals.TooMany counted.Fields) at = IsFirstOver FIELDS at (flat_map field_place tree.decls)
 FileRule tree (refusals.TooMany counted.Methods) at = IsFirstOver METHODS at (map (λ method. method.at) tree.methods)
+FileRule tree refusals.WrongStart at = HasWrongStart at tree.decls
 FileRule tree what at = ⊥
 
 abbrev FileBreaks : MonitorTree → SourceFault → Type 0
@@ -39,9 +42,21 @@ FileCases tree fault =
     FileBreaks tree fault
     ⊎ ((method : MethodTree) × Contains tree.methods method × MethodCases tree.decls method fault)
 
+from_starts : (tree : MonitorTree) (fault : SourceFault) → Contains (faults_in_starts tree.decls) fault → FileBreaks tree fault
+from_starts tree fault within =
+    let subjects = flat_map subject_faults tree.decls in
+    let sources = faults_in_sources [] tree.decls in
+    elim (Contains-append_cases (subjects ++ sources) (flat_map start_faults tree.decls) fault within) [
+      | inr wrong ↦ let found = from_wrong_starts tree.decls fault wrong in subst (FileBreaks tree) (sym found.is) found.breaks
+      | inl front ↦ elim (Contains-append_cases subjects sources fault front) [
+        | inr unknown ↦ let found = from_sources tree.decls fault unknown in subst (FileBreaks tree) (sym found.is) (inr found.breaks)
+        | inl other ↦ let found = from_subjects tree.decls fault other in subst (FileBreaks tree) (sym found.is) (inl found.breaks)
+      ]
+    ]
+
 from_file : (tree : MonitorTree) (fault : SourceFault) → Contains (faults_of tree) fault → FileCases tree fault
 from_file tree fault within =
-    let literals = faults_in_literals tree.decls in
+    let literals = faults_in_literals tree.decls ++ faults_in_starts tree.decls in
     let names = repeated [] (declared_names tree.decls ++ method_names tree.methods) in
     let constants = over CONSTANTS counted.Constants (flat_map constant_place tree.decls) in
     let fields = over FIELDS counted.Fields (flat_map field_place tree.decls) in
@@ -58,7 +73,10 @@ from_file tree fault within =
             | inr found ↦ let over = from_over CONSTANTS counted.Constants (flat_map constant_place tree.decls) fault found in inl (subst (FileBreaks tree) (sym over.is) over.first)
             | inl front ↦ elim (Contains-append_cases literals names fault front) [
               | inr found ↦ let name = from_repeated [] (declared_names tree.decls ++ method_names tree.methods) fault found in inl (subst (FileBreaks tree) (sym name.is) name.repeats)
-              | inl found ↦ let large = from_literals tree.decls fault found in inl (subst (FileBreaks tree) (sym large.is) large.large)
+              | inl front ↦ elim (Contains-append_cases (faults_in_literals tree.decls) (faults_in_starts tree.decls) fault front) [
+                | inr found ↦ inl (from_starts tree fault found)
+                | inl found ↦ let large = from_literals tree.decls fault found in inl (subst (FileBreaks tree) (sym large.is) large.large)
+              ]
             ]
           ]
         ]
@@ -69,7 +87,7 @@ from_file tree fault within =
 
 last_in : (tree : MonitorTree) (fault : SourceFault) → Contains (faults_in_methods tree.decls tree.methods) fault → Contains (faults_of tree) fault
 last_in tree fault within =
-    let literals = faults_in_literals tree.decls in
+    let literals = faults_in_literals tree.decls ++ faults_in_starts tree.decls in
     let names = repeated [] (declared_names tree.decls ++ method_names tree.methods) in
     let constants = over CONSTANTS counted.Constants (flat_map constant_place tree.decls) in
     let fields = over FIELDS counted.Fields (flat_map field_place tree.decls) in
@@ -78,7 +96,7 @@ last_in tree fault within =
 
 fifth_in : (tree : MonitorTree) (fault : SourceFault) → Contains (over METHODS counted.Methods (map (λ method. method.at) tree.methods)) fault → Contains (faults_of tree) fault
 fifth_in tree fault within =
-    let literals = faults_in_literals tree.decls in
+    let literals = faults_in_literals tree.decls ++ faults_in_starts tree.decls in
     let names = repeated [] (declared_names tree.decls ++ method_names tree.methods) in
     let constants = over CONSTANTS counted.Constants (flat_map constant_place tree.decls) in
     let fields = over FIELDS counted.Fields (flat_map field_place tree.decls) in
@@ -87,7 +105,7 @@ fifth_in tree fault within =
 
 fourth_in : (tree : MonitorTree) (fault : SourceFault) → Contains (over FIELDS counted.Fields (flat_map field_place tree.decls)) fault → Contains (faults_of tree) fault
 fourth_in tree fault within =
-    let literals = faults_in_literals tree.decls in
+    let literals = faults_in_literals tree.decls ++ faults_in_starts tree.decls in
     let names = repeated [] (declared_names tree.decls ++ method_names tree.methods) in
     let constants = over CONSTANTS counted.Constants (flat_map constant_place tree.decls) in
     let fields = over FIELDS counted.Fields (flat_map field_place tree.decls) in
@@ -97,7 +115,7 @@ fourth_in tree fault within =
 
 third_in : (tree : MonitorTree) (fault : SourceFault) → Contains (over CONSTANTS counted.Constants (flat_map constant_place tree.decls)) fault → Contains (faults_of tree) fault
 third_in tree fault within =
-    let literals = faults_in_literals tree.decls in
+    let literals = faults_in_literals tree.decls ++ faults_in_starts tree.decls in
     let names = repeated [] (declared_names tree.decls ++ method_names tree.methods) in
     let constants = over CONSTANTS counted.Constants (flat_map constant_place tree.decls) in
     let fields = over FIELDS counted.Fields (flat_map field_place tree.decls) in
@@ -108,7 +126,7 @@ third_in tree fault within =
 
 second_in : (tree : MonitorTree) (fault : SourceFault) → Contains (repeated [] (declared_names tree.decls ++ method_names tree.methods)) fault → Contains (faults_of tree) fault
 second_in tree fault within =
-    let literals = faults_in_literals tree.decls in
+    let literals = faults_in_literals tree.decls ++ faults_in_starts tree.decls in
     let names = repeated [] (declared_names tree.decls ++ method_names tree.methods) in
     let constants = over CONSTANTS counted.Constants (flat_map constant_place tree.decls) in
     let fields = over FIELDS counted.Fields (flat_map field_place tree.decls) in
@@ -118,9 +136,9 @@ second_in tree fault within =
     (Contains-append_left (literals ++ names ++ constants) fields fault
     (Contains-append_left (literals ++ names) constants fault (Contains-append_right literals names fault within))))
 
-first_in_file : (tree : MonitorTree) (fault : SourceFault) → Contains (faults_in_literals tree.decls) fault → Contains (faults_of tree) fault
-first_in_file tree fault within =
-    let literals = faults_in_literals tree.decls in
+first_in : (tree : MonitorTree) (fault : SourceFault) → Contains (faults_in_literals tree.decls ++ faults_in_starts tree.decls) fault → Contains (faults_of tree) fault
+first_in tree fault within =
+    let literals = faults_in_literals tree.decls ++ faults_in_starts tree.decls in
     let names = repeated [] (declared_names tree.decls ++ method_names tree.methods) in
     let constants = over CONSTANTS counted.Constants (flat_map constant_place tree.decls) in
     let fields = over FIELDS counted.Fields (flat_map field_place tree.decls) in
@@ -130,9 +148,34 @@ first_in_file tree fault within =
     (Contains-append_left (literals ++ names ++ constants) fields fault
     (Contains-append_left (literals ++ names) constants fault (Contains-append_left literals names fault within))))
 
+literal_in : (tree : MonitorTree) (fault : SourceFault) → Contains (faults_in_literals tree.decls) fault → Contains (faults_of tree) fault
+literal_in tree fault within = first_in tree fault (Contains-append_left (faults_in_literals tree.decls) (faults_in_starts tree.decls) fault within)
+
+start_in : (tree : MonitorTree) (fault : SourceFault) → Contains (faults_in_starts tree.decls) fault → Contains (faults_of tree) fault
+start_in tree fault within = first_in tree fault (Contains-append_right (faults_in_literals tree.decls) (faults_in_starts tree.decls) fault within)
+
+subject_in : (tree : MonitorTree) (fault : SourceFault) → Contains (flat_map subject_faults tree.decls) fault → Contains (faults_of tree) fault
+subject_in tree fault within =
+    let subjects = flat_map subject_faults tree.decls in
+    let sources = faults_in_sources [] tree.decls in
+    start_in tree fault (Contains-append_left (subjects ++ sources) (flat_map start_faults tree.decls) fault (Contains-append_left subjects sources fault within))
+
+source_in : (tree : MonitorTree) (fault : SourceFault) → Contains (faults_in_sources [] tree.decls) fault → Contains (faults_of tree) fault
+source_in tree fault within =
+    let subjects = flat_map subject_faults tree.decls in
+    let sources = faults_in_sources [] tree.decls in
+    start_in tree fault (Contains-append_left (subjects ++ sources) (flat_map start_faults tree.decls) fault (Contains-append_right subjects sources fault within))
+
+wrong_in : (tree : MonitorTree) (fault : SourceFault) → Contains (flat_map start_faults tree.decls) fault → Contains (faults_of tree) fault
+wrong_in tree fault within =
+    start_in tree fault (Contains-append_right (flat_map subject_faults tree.decls ++ faults_in_sources [] tree.decls) (flat_map start_faults tree.decls) fault within)
+
 file_rule_in : (tree : MonitorTree) (what : Refusal) (at : ℕ) → FileBreaks tree (fault_at what at) → Contains (faults_of tree) (fault_at what at)
+file_rule_in tree refusals.Unknown at (inl breaks) = subject_in tree (fault_at refusals.Unknown at) (in_subjects tree.decls at breaks)
+file_rule_in tree refusals.Unknown at (inr breaks) = source_in tree (fault_at refusals.Unknown at) (in_sources tree.decls at breaks)
+file_rule_in tree refusals.WrongStart at breaks = wrong_in tree (fault_at refusals.WrongStart at) (in_wrong_starts tree.decls at breaks)
 file_rule_in tree refusals.Duplicate at breaks = second_in tree (fault_at refusals.Duplicate at) (in_repeated [] at (declared_names tree.decls ++ method_names tree.methods) breaks)
-file_rule_in tree refusals.TooLarge at breaks = first_in_file tree (fault_at refusals.TooLarge at) (in_literals tree.decls at breaks)
+file_rule_in tree refusals.TooLarge at breaks = literal_in tree (fault_at refusals.TooLarge at) (in_literals tree.decls at breaks)
 file_rule_in tree (refusals.TooMany counted.Constants) at breaks = third_in tree (fault_at (refusals.TooMany counted.Constants) at) (in_over CONSTANTS counted.Constants (flat_map constant_place tree.decls) at breaks)
 file_rule_in tree (refusals.TooMany counted.Fields) at breaks = fourth_in tree (fault_at (refusals.TooMany counted.Fields) at) (in_over FIELDS counted.Fields (flat_map field_place tree.decls) at breaks)
 file_rule_in tree (refusals.TooMany counted.Methods) at breaks = fifth_in tree (fault_at (refusals.TooMany counted.Methods) at) (in_over METHODS counted.Methods (map (λ method. method.at) tree.methods) at breaks)
@@ -163,7 +206,10 @@ to_limit tree what at (inr (method, one, inr (block, own, inr (inr (statement, h
 
 to_rule : (tree : MonitorTree) (what : Refusal) (at : ℕ) → FileCases tree (fault_at what at) → Breaks tree (fault_at what at)
 to_rule tree refusals.Unknown at (inr (method, one, inr (block, own, inr (inl expression)))) = inl (method, one, (block, own, expression))
-to_rule tree refusals.Unknown at (inr (method, one, inr (block, own, inr (inr statement)))) = inr (method, one, (block, own, statement))
+to_rule tree refusals.Unknown at (inr (method, one, inr (block, own, inr (inr statement)))) = inr (inl (method, one, (block, own, statement)))
+to_rule tree refusals.Unknown at (inl (inl breaks)) = inr (inr (inl breaks))
+to_rule tree refusals.Unknown at (inl (inr breaks)) = inr (inr (inr breaks))
+to_rule tree refusals.WrongStart at (inl breaks) = breaks
 to_rule tree refusals.Duplicate at (inl breaks) = inl breaks
 to_rule tree refusals.Duplicate at (inr (method, one, inl breaks)) = inr (method, one, breaks)
 to_rule tree refusals.WrongType at (inr (method, one, inr (block, own, inl breaks))) = inr (inl (method, one, (block, own, breaks)))
@@ -191,7 +237,10 @@ to_rules tree fault cases = to_rule tree fault.what fault.at cases
 -- the same, from a rule to what breaks it
 from_rule : (tree : MonitorTree) (what : Refusal) (at : ℕ) → Breaks tree (fault_at what at) → FileCases tree (fault_at what at)
 from_rule tree refusals.Unknown at (inl (method, one, (block, own, expression))) = inr (method, one, inr (block, own, inr (inl expression)))
-from_rule tree refusals.Unknown at (inr (method, one, (block, own, statement))) = inr (method, one, inr (block, own, inr (inr statement)))
+from_rule tree refusals.Unknown at (inr (inl (method, one, (block, own, statement)))) = inr (method, one, inr (block, own, inr (inr statement)))
+from_rule tree refusals.Unknown at (inr (inr (inl breaks))) = inl (inl breaks)
+from_rule tree refusals.Unknown at (inr (inr (inr breaks))) = inl (inr breaks)
+from_rule tree refusals.WrongStart at breaks = inl breaks
 from_rule tree refusals.Duplicate at (inl breaks) = inl breaks
 from_rule tree refusals.Duplicate at (inr (method, one, breaks)) = inr (method, one, inl breaks)
 from_rule tree refusals.WrongType at (inl (method, one, (block, own, expression))) = inr (method, one, inr (block, own, inr (inl expression)))

@@ -1,6 +1,6 @@
 -- The rules of monitor files, one by one: a tree breaks a rule at a place.
-use Rattle.std.specs.Prelude.{◌≡◌, ℕ, ◌<◌, ◌⊎◌, ◌↔◌, Bool, true, false, ◌||◌, List, [], ◌∷◌, ◌++◌}
-use Rattle.std.specs.Prelude.{map, All, Contains, Some, None, slice_get}
+use Rattle.std.specs.Prelude.{◌≡◌, ◌≢◌, ℕ, ◌<◌, ◌≤◌, ◌⊎◌, ◌↔◌, Bool, true, false, ◌||◌, List, []}
+use Rattle.std.specs.Prelude.{◌∷◌, ◌++◌, map, All, Contains, Some, None, slice_get}
 use Rattle.std.specs.List.{flat_map}
 use Rattle.lang_tree.specs.declared.tree.Lit.{Lit}
 use Rattle.lang_tree.specs.declared.tree.Decl.{Decl}
@@ -25,13 +25,14 @@ use Rattle.lang_base.specs.declared.source_fault.SourceFault.{SourceFault}
 use Rattle.lang_base.specs.declared.source_fault.Refusal.{Refusal}
 use Rattle.lang_base.specs.declared.source_fault.Refusal.TheVariants as refusals
 use Rattle.lang_forms.specs.declared.scope.Entry.{Entry}
-use Rattle.lang_forms.specs.Scope.{entry_named}
+use Rattle.lang_forms.specs.Scope.{entry_named, literal_value}
 use Rattle.lang_forms.specs.Forms.{Form, is_constant, is_limited, minus}
 use Rattle.lang_forms.specs.Sense.{entry_kind, faults_in, first_in, form_in, is_other, kind_in}
 use Rattle.lang_rules.specs.Occurrences.{OfBlock, OfExpression, OfMethod, OfStatement, inner_of}
 use Rattle.lang_rules.specs.Occurrences.{parts_of}
 use Rattle.lang_rules.specs.Rules.{PlacedName, constant_place, declared_at, declared_names}
-use Rattle.lang_rules.specs.Rules.{faults_of, field_place, method_names, own_names, places_in}
+use Rattle.lang_rules.specs.Rules.{faults_of, field_place, is_source, meets, method_names}
+use Rattle.lang_rules.specs.Rules.{own_names, places_in}
 
 -- ---- what a rule asks of the expressions that it speaks of
 
@@ -179,12 +180,49 @@ IsLargeLiteral place literal = (literal.at ≡ place) × (GREATEST_NUMBER < lite
 
 abbrev pub IsLargeValue : ℕ → Decl → Type 0
 IsLargeValue place (decls.Const at name value) = IsLargeLiteral place value
+IsLargeValue place (decls.Param at name value limit) =
+    IsLargeLiteral place value ⊎ IsLargeLiteral place limit.bound
 IsLargeValue place (decls.Int at name value) = IsLargeLiteral place value
+IsLargeValue place (decls.Copied at name source) = ⊥
 IsLargeValue place (decls.Flag at name value) = ⊥
 
 abbrev pub HasLargeLiteral : ℕ → List Decl → Type 0
 HasLargeLiteral place declared =
     (decl : Decl) × Contains declared decl × IsLargeValue place decl
+
+-- the condition of a parameter is on another name
+abbrev pub IsOtherSubject : ℕ → Decl → Type 0
+IsOtherSubject place (decls.Param at name value limit) =
+    (limit.subject.at ≡ place) × (limit.subject.name ≢ name)
+IsOtherSubject place decl = ⊥
+
+abbrev pub HasOtherSubject : ℕ → List Decl → Type 0
+HasOtherSubject place declared =
+    (decl : Decl) × Contains declared decl × IsOtherSubject place decl
+
+-- a start copies what none of these declares as a constant or a parameter
+abbrev pub IsUnknownSource : List Decl → ℕ → Decl → Type 0
+IsUnknownSource earlier place (decls.Copied at name source) =
+    (source.at ≡ place) × All (λ other. is_source source.name other ≡ false) earlier
+IsUnknownSource earlier place decl = ⊥
+
+abbrev pub HasUnknownSource : ℕ → List Decl → Type 0
+HasUnknownSource place declared =
+    (before : List Decl) × (decl : Decl) × (after : List Decl)
+    × (declared ≡ before ++ decl ∷ after)
+    × IsUnknownSource before place decl
+
+-- a parameter's own number doesn't meet its condition; asked where neither number is too large
+abbrev pub IsWrongStart : ℕ → Decl → Type 0
+IsWrongStart place (decls.Param at name value limit) =
+    (value.at ≡ place)
+    × (value.digits ≤ GREATEST_NUMBER)
+    × (limit.bound.digits ≤ GREATEST_NUMBER)
+    × (meets limit (literal_value value) ≡ false)
+IsWrongStart place decl = ⊥
+
+abbrev pub HasWrongStart : ℕ → List Decl → Type 0
+HasWrongStart place declared = (decl : Decl) × Contains declared decl × IsWrongStart place decl
 
 -- it is the first one over the limit, counted in the order of the file
 abbrev pub IsFirstOver : ℕ → ℕ → List ℕ → Type 0
@@ -192,14 +230,17 @@ IsFirstOver limit place places = slice_get places limit ≡ Some place
 
 -- ---- each rule of a file
 
--- a name in an expression is known, and so is the target of an assignment
+-- A name in an expression is known, and so is the target of an assignment; the condition of a
+-- parameter is on its own name, and a start copies a constant or a parameter declared before.
 abbrev pub BreaksUnknown : MonitorTree → ℕ → Type 0
 BreaksUnknown tree place =
     OfExpression tree (λ scope expression. IsUnknownName scope place (out-Expr expression))
     ⊎ OfStatement tree (λ scope statement. HasUnknownTarget scope place (out-StmtTree statement))
+    ⊎ HasOtherSubject place tree.decls
+    ⊎ HasUnknownSource place tree.decls
 
--- constants, fields and methods have distinct names, and parameters and locals of a method have
--- names distinct from each other and from constants and fields
+-- Constants, parameters, fields and methods have distinct names, and inputs and locals of a method
+-- have names distinct from each other and from declarations.
 abbrev pub BreaksDuplicate : MonitorTree → ℕ → Type 0
 BreaksDuplicate tree place =
     Repeats [] place (declared_names tree.decls ++ method_names tree.methods)
@@ -261,6 +302,10 @@ BreaksMisplaced tree place =
     ⊎ OfBlock tree (λ scope block. HasEarlyReturn place block.body)
     ⊎ OfMethod tree (λ scope method. ReturnsBeforeLast place method.blocks)
 
+-- the own number of a parameter meets its condition
+abbrev pub BreaksWrongStart : MonitorTree → ℕ → Type 0
+BreaksWrongStart tree place = HasWrongStart place tree.decls
+
 -- The tree breaks this rule at this place. Of a product the first `*` with a break is named, and of
 -- too many things the first over the limit. Rules of tokens, of the grammar and of clients are no
 -- rules of trees.
@@ -273,6 +318,7 @@ BreaksRule tree refusals.TooLarge at = BreaksTooLarge tree at
 BreaksRule tree (refusals.TooMany what) at = BreaksTooMany tree what at
 BreaksRule tree refusals.ReadOnly at = BreaksReadOnly tree at
 BreaksRule tree refusals.Misplaced at = BreaksMisplaced tree at
+BreaksRule tree refusals.WrongStart at = BreaksWrongStart tree at
 BreaksRule tree what at = ⊥
 
 -- the tree breaks the rule of a fault at its place

@@ -1,9 +1,16 @@
 -- The rules of monitor files: the faults of a tree, as the checker goes over it.
 -- `Judgements` has each rule by itself; the faults listed here are exactly those.
-use Rattle.std.specs.Prelude.{◌≤◌, ℕ, List, [], ◌∷◌, ◌++◌, length, map, All, Option, Some, None}
-use Rattle.std.specs.Prelude.{slice_get, if◌then◌else◌}
+use Rattle.std.specs.Prelude.{◌≤◌, ℕ, ℤ, Bool, false, not, ◌&&◌, nat_le, List, [], ◌∷◌, ◌++◌}
+use Rattle.std.specs.Prelude.{length, map, All, Option, Some, None, slice_get, if◌then◌else◌}
 use Rattle.std.specs.List.{flat_map, list_any}
 use Rattle.std.specs.Str.{bytes_eq}
+use Rattle.lang_tree.specs.declared.tree.Op.{Op}
+use Rattle.lang_tree.specs.declared.tree.Op.TheVariants as ops
+use Rattle.lang_tree.specs.declared.tree.Lit.{Lit}
+use Rattle.lang_tree.specs.declared.tree.LimitSign.{LimitSign}
+use Rattle.lang_tree.specs.declared.tree.LimitSign.TheVariants as signs
+use Rattle.lang_tree.specs.declared.tree.LimitTree.{LimitTree}
+pub use Rattle.lang_tree.specs.declared.tree.PlacedName.{PlacedName}
 use Rattle.lang_tree.specs.declared.tree.Decl.{Decl}
 use Rattle.lang_tree.specs.declared.tree.Decl.TheVariants as decls
 use Rattle.lang_tree.specs.declared.tree.InputTree.{InputTree}
@@ -14,8 +21,8 @@ use Rattle.lang_tree.specs.declared.tree.BlockTree.{BlockTree}
 use Rattle.lang_tree.specs.declared.tree.MethodTree.{MethodTree}
 use Rattle.lang_tree.specs.declared.tree.MonitorTree.{MonitorTree}
 use Rattle.lang_tree.specs.Names.{declared_name as bare_name}
-use Rattle.lang_base.specs.Limits.{CONSTANTS, FIELDS, FILE_BYTES, INPUTS, LOCALS, METHODS}
-use Rattle.lang_base.specs.Limits.{METHOD_BLOCKS, STATEMENTS}
+use Rattle.lang_base.specs.Limits.{CONSTANTS, FIELDS, FILE_BYTES, GREATEST_NUMBER, INPUTS, LOCALS}
+use Rattle.lang_base.specs.Limits.{METHODS, METHOD_BLOCKS, STATEMENTS}
 use Rattle.lang_base.specs.declared.kind.Kind.{Kind}
 use Rattle.lang_base.specs.declared.kind.Kind.TheVariants as kinds
 use Rattle.lang_base.specs.declared.counted.Counted.{Counted}
@@ -25,21 +32,20 @@ use Rattle.lang_base.specs.declared.counted.Counted.TheVariants.{Statements}
 use Rattle.lang_base.specs.declared.source_fault.SourceFault.{SourceFault}
 use Rattle.lang_base.specs.declared.source_fault.Refusal.TheVariants.{Unknown, Duplicate, TooMany}
 use Rattle.lang_base.specs.declared.source_fault.Refusal.TheVariants.{ReadOnly, Misplaced}
+use Rattle.lang_base.specs.declared.source_fault.Refusal.TheVariants.{WrongStart}
 use Rattle.lang_forms.specs.declared.scope.Entry.{Entry}
-use Rattle.lang_forms.specs.Scope.{scope_of, entry_named}
+use Rattle.lang_forms.specs.Plain.{compared}
+use Rattle.lang_forms.specs.Scope.{scope_of, entry_named, literal_value}
 use Rattle.lang_forms.specs.Sense.{Sense, sense, entry_kind, wrong_type, large_number}
 use Rattle.lang_base.specs.SourceFaults.{fault_at, ◌or_else◌}
 
 -- ---- names and numbers of things
 
--- a name with the offset where it stands
-pub record PlacedName : Type 0 where
-  pub name : List ℕ
-  pub at : ℕ
-
 abbrev pub declared_at : Decl → ℕ
 declared_at (decls.Const at name value) = at
+declared_at (decls.Param at name value limit) = at
 declared_at (decls.Int at name value) = at
+declared_at (decls.Copied at name source) = at
 declared_at (decls.Flag at name value) = at
 
 abbrev pub declared_name : Decl → PlacedName
@@ -169,16 +175,75 @@ early_in_blocks scope (last ∷ []) = early_faults scope last.body
 early_in_blocks scope (first ∷ next ∷ more) =
     return_faults scope first.body ++ early_in_blocks scope (next ∷ more)
 
--- ---- methods
+-- ---- declarations
 
 -- a written number of a declaration is at most the greatest one
 abbrev pub literal_faults : Decl → List SourceFault
 literal_faults (decls.Const at name value) = large_number value.at value.digits
+literal_faults (decls.Param at name value limit) =
+    large_number value.at value.digits ++ large_number limit.bound.at limit.bound.digits
 literal_faults (decls.Int at name value) = large_number value.at value.digits
+literal_faults (decls.Copied at name source) = []
 literal_faults (decls.Flag at name value) = []
 
 abbrev pub faults_in_literals : List Decl → List SourceFault
 faults_in_literals declared = flat_map literal_faults declared
+
+-- the condition of a parameter is on its own name
+abbrev pub subject_faults : Decl → List SourceFault
+subject_faults (decls.Param at name value limit) =
+    if bytes_eq limit.subject.name name then [] else fault_at Unknown limit.subject.at ∷ []
+subject_faults decl = []
+
+-- it declares a constant or a parameter of this name
+abbrev pub is_source : List ℕ → Decl → Bool
+is_source wanted (decls.Const at name value) = bytes_eq name wanted
+is_source wanted (decls.Param at name value limit) = bytes_eq name wanted
+is_source wanted decl = false
+
+-- a start copies a constant or a parameter that is declared before
+abbrev pub source_faults : List Decl → Decl → List SourceFault
+source_faults earlier (decls.Copied at name source) =
+    if list_any (is_source source.name) earlier then [] else fault_at Unknown source.at ∷ []
+source_faults earlier decl = []
+
+abbrev pub faults_in_sources : List Decl → List Decl → List SourceFault
+faults_in_sources earlier [] = []
+faults_in_sources earlier (decl ∷ more) =
+    source_faults earlier decl ++ faults_in_sources (earlier ++ decl ∷ []) more
+
+-- the comparison of a sign
+abbrev pub comparison_of : LimitSign → Op
+comparison_of signs.Equal = ops.Equal
+comparison_of signs.Less = ops.Less
+comparison_of signs.AtMost = ops.AtMost
+comparison_of signs.More = ops.More
+comparison_of signs.AtLeast = ops.AtLeast
+
+-- the number compares with the bound as the condition says
+abbrev pub meets : LimitTree → ℤ → Bool
+meets limit number = compared (comparison_of limit.sign) number (literal_value limit.bound)
+
+-- neither number is too large, and the own one doesn't meet the condition
+abbrev pub is_wrong_start : Lit → LimitTree → Bool
+is_wrong_start value limit =
+    nat_le value.digits GREATEST_NUMBER
+    && (nat_le limit.bound.digits GREATEST_NUMBER && not (meets limit (literal_value value)))
+
+-- a parameter's own number meets its condition
+abbrev pub start_faults : Decl → List SourceFault
+start_faults (decls.Param at name value limit) =
+    if is_wrong_start value limit then fault_at WrongStart value.at ∷ [] else []
+start_faults decl = []
+
+-- the rules of parameters and of starts that are copied
+abbrev pub faults_in_starts : List Decl → List SourceFault
+faults_in_starts declared =
+    flat_map subject_faults declared
+    ++ faults_in_sources [] declared
+    ++ flat_map start_faults declared
+
+-- ---- methods
 
 -- parameters and locals have names distinct from each other and from declarations
 abbrev pub own_faults : List Decl → MethodTree → List SourceFault
@@ -202,18 +267,23 @@ faults_in_methods declared methods = flat_map (method_faults declared) methods
 
 abbrev pub constant_place : Decl → List ℕ
 constant_place (decls.Const at name value) = at ∷ []
+constant_place (decls.Param at name value limit) = []
 constant_place (decls.Int at name value) = []
+constant_place (decls.Copied at name source) = []
 constant_place (decls.Flag at name value) = []
 
 abbrev pub field_place : Decl → List ℕ
 field_place (decls.Const at name value) = []
+field_place (decls.Param at name value limit) = at ∷ []
 field_place (decls.Int at name value) = at ∷ []
+field_place (decls.Copied at name source) = at ∷ []
 field_place (decls.Flag at name value) = at ∷ []
 
--- constants, fields and methods have distinct names
+-- constants, parameters, fields and methods have distinct names
 abbrev pub faults_of : MonitorTree → List SourceFault
 faults_of tree =
     faults_in_literals tree.decls
+    ++ faults_in_starts tree.decls
     ++ repeated [] (declared_names tree.decls ++ method_names tree.methods)
     ++ over CONSTANTS Constants (flat_map constant_place tree.decls)
     ++ over FIELDS Fields (flat_map field_place tree.decls)

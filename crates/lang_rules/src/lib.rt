@@ -13,7 +13,9 @@ mod methods;
 mod monitor;
 mod names;
 mod numbers;
+mod starts;
 mod statements;
 
 pub use laws::faults_are_broken_rules;
 pub use monitor::fault_in_monitor;
+pub use starts::is_source;

@@ -8,6 +8,7 @@ use crate::limits::{over_constants, over_fields, over_methods};
 use crate::methods::fault_in_methods;
 use crate::names::repeated_name;
 use crate::numbers::large_literal;
+use crate::starts::fault_in_starts;
 use lang_base::{SourceFault, earlier_of};
 use lang_tree::MonitorTree;
 use std::alloc::{AllocError, Global};
@@ -29,7 +30,8 @@ pub fn fault_in_monitor(
     let decls = tree.decls.items();
     let methods = tree.methods.items();
     let inner = fault_in_methods(alloc, decls, methods)?;
-    let first = earlier_of(large_literal(decls), repeated_name(decls, methods));
+    let first = earlier_of(large_literal(decls), fault_in_starts(decls));
+    let first = earlier_of(first, repeated_name(decls, methods));
     let first = earlier_of(first, over_constants(decls));
     let first = earlier_of(first, over_fields(decls));
     let first = earlier_of(first, over_methods(methods));

@@ -11,7 +11,7 @@ ghost use Rattle.lang_rules.specs.Rules.{repeated};
 use lang_base::{Named, Refusal, SourceFault, earlier_of, is_among, is_repeated};
 use lang_tree::{Decl, InputTree, MethodTree};
 
-/// The first of the constants, fields and methods with the name of an earlier one.
+/// The first of the declarations and methods with the name of an earlier one.
 pub(crate) fn repeated_name(decls: &[Decl], methods: &[MethodTree]) -> Option<SourceFault>
     ensures { result ≡ least (repeated [] (declared_names decls.now ++ method_names methods.now)) }
 {
@@ -118,7 +118,9 @@ pub(crate) fn place_of_name(decl: &Decl) -> u32
 {
     match decl {
         Decl::Const { at, .. } => *at,
+        Decl::Param { at, .. } => *at,
         Decl::Int { at, .. } => *at,
+        Decl::Copied { at, .. } => *at,
         Decl::Flag { at, .. } => *at,
     }
 }

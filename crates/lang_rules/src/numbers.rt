@@ -24,7 +24,12 @@ fn literal_fault(decl: &Decl) -> Option<SourceFault>
 {
     match decl {
         Decl::Const { value, .. } => large_number(value.at, value.digits),
+        Decl::Param { value, limit, .. } => earlier_of(
+            large_number(value.at, value.digits),
+            large_number(limit.bound.at, limit.bound.digits),
+        ),
         Decl::Int { value, .. } => large_number(value.at, value.digits),
+        Decl::Copied { .. } => None,
         Decl::Flag { .. } => None,
     }
 }

@@ -218,6 +218,7 @@ module _ (monitor : MonitorParts) (tree : ClientsTree) where
   in_faults (refusals.TooMany counted) at breaks = absurd breaks
   in_faults refusals.ReadOnly at breaks = absurd breaks
   in_faults refusals.Misplaced at breaks = absurd breaks
+  in_faults refusals.WrongStart at breaks = absurd breaks
 
   pub exactly_broken : (fault : SourceFault) → Contains (faults_of monitor tree) fault ↔ Breaks monitor tree fault
   exactly_broken fault = (from_faults fault, in_faults fault.what fault.at)

@@ -6,6 +6,9 @@ use Rattle.lang_base.specs.Limits.{LEVELS}
 use Rattle.lang_tokens.specs.declared.token.TokenKind.{TokenKind}
 use Rattle.lang_tokens.specs.declared.token.TokenKind.TheVariants as kinds
 use Rattle.lang_tree.specs.declared.tree.Lit.{Lit}
+use Rattle.lang_tree.specs.declared.tree.PlacedName.{PlacedName}
+use Rattle.lang_tree.specs.declared.tree.LimitSign.{LimitSign}
+use Rattle.lang_tree.specs.declared.tree.LimitTree.{LimitTree}
 use Rattle.lang_tree.specs.declared.tree.Decl.{Decl}
 use Rattle.lang_tree.specs.declared.tree.Decl.TheVariants as decls
 use Rattle.lang_tree.specs.declared.tree.InputTree.{InputTree}
@@ -15,9 +18,9 @@ use Rattle.lang_tree.specs.declared.tree.BlockTree.{BlockTree}
 use Rattle.lang_tree.specs.declared.tree.MethodTree.{MethodTree}
 use Rattle.lang_tree.specs.declared.tree.MonitorTree.{MonitorTree}
 use Rattle.lang_tokens.specs.Words.{Word, ident, numeral, mark}
-use Rattle.lang_syntax.specs.Grammar.{Rule, ◌⌢◌, Each, truth_word, kind_word, IsMarkAt, IsMark, IsIdent, IsNumeral, IsExpression, IsBlock, IsStatement, after_minus, IsLiteral, IsDeclaration, IsInput, AreInputs, IsLocal, IsGuarded, ASSERTS, IsAsserted, Single, AreBlocks, IsMethod, IsMonitorFile}
-use Rattle.lang_tree.specs.Offsets.{unplaced_expression, unplaced_statement, unplaced_literal, unplaced_declaration, unplaced_input, unplaced_block, unplaced_method, unplaced}
-use Rattle.lang_syntax.proofs.CanonicalWords.{bare, expression_words, statement_words, minus_words, literal_words, declaration_words, input_words, inputs_words, local_words, opening_word, guarded_words, method_words, tree_words}
+use Rattle.lang_syntax.specs.Grammar.{Rule, ◌⌢◌, Each, truth_word, limit_sign, kind_word, IsMarkAt, IsMark, IsIdent, IsNumeral, IsExpression, IsBlock, IsStatement, after_minus, IsLiteral, WHERE, PARAM, IsLimit, IsDeclaration, IsInput, AreInputs, IsLocal, IsGuarded, ASSERTS, IsAsserted, Single, AreBlocks, IsMethod, IsMonitorFile}
+use Rattle.lang_tree.specs.Offsets.{unplaced_expression, unplaced_statement, unplaced_literal, unplaced_limit, unplaced_declaration, unplaced_input, unplaced_block, unplaced_method, unplaced}
+use Rattle.lang_syntax.proofs.CanonicalWords.{bare, expression_words, statement_words, minus_words, literal_words, limit_words, declaration_words, input_words, inputs_words, local_words, opening_word, guarded_words, method_words, tree_words}
 use Rattle.lang_syntax.proofs.PrintedWords.{Cut, Again, each_again, more_again, no_words, alone, cut_mark, cut_mark_at, cut_ident, cut_numeral, cut_tree, last_mark}
 use Rattle.lang_syntax.proofs.CanonicalExpressions.{expression_again}
 use Rattle.lang_syntax.proofs.CanonicalStatements.{block_words, block_again, statement_again}
@@ -72,19 +75,80 @@ flag_again name value printed h =
     let semicolon = last_mark kinds.Semicolon truth.rest truth.bare_rest in
     (named.0, (key.front, key.rest, key.first, (named.1.front, named.1.rest, named.1.first, (assign.front, assign.rest, assign.first, (truth.front, truth.rest, truth.first, semicolon, truth.is), assign.is), named.1.is), key.is))
 
+copied_again : (name : List ℕ) (source : PlacedName) (printed : List Word) → map bare printed ≡ mark kinds.KeyInt 0 ∷ ident name 0 ∷ mark kinds.Assign 0 ∷ ident source.name 0 ∷ mark kinds.Semicolon 0 ∷ []
+    → (at : ℕ) × (from : ℕ) × IsDeclaration (decls.Copied at name (record { at = from; name = source.name })) printed
+copied_again name source printed h =
+    let key = cut_mark kinds.KeyInt (ident name 0 ∷ mark kinds.Assign 0 ∷ ident source.name 0 ∷ mark kinds.Semicolon 0 ∷ []) printed h in
+    let named = cut_ident name (mark kinds.Assign 0 ∷ ident source.name 0 ∷ mark kinds.Semicolon 0 ∷ []) key.rest key.bare_rest in
+    let assign = cut_mark kinds.Assign (ident source.name 0 ∷ mark kinds.Semicolon 0 ∷ []) named.1.rest named.1.bare_rest in
+    let copied = cut_ident source.name (mark kinds.Semicolon 0 ∷ []) assign.rest assign.bare_rest in
+    let semicolon = last_mark kinds.Semicolon copied.1.rest copied.1.bare_rest in
+    let assigned : (IsMark kinds.Assign ⌢ IsIdent source.name copied.0 ⌢ IsMark kinds.Semicolon) named.1.rest =
+    (assign.front, assign.rest, assign.first, (copied.1.front, copied.1.rest, copied.1.first, semicolon, copied.1.is), assign.is) in
+    (named.0, copied.0, (key.front, key.rest, key.first, (named.1.front, named.1.rest, named.1.first, assigned, named.1.is), key.is))
+
+same_limit : (at from : ℕ) (name : List ℕ) (sign : LimitSign) (bound other_bound : Lit) → unplaced_literal bound ≡ unplaced_literal other_bound
+    → (let one : LimitTree = record { subject = record { at = at; name = name }; sign = sign; bound = bound } in
+    let other : LimitTree = record { subject = record { at = from; name = name }; sign = sign; bound = other_bound } in
+    unplaced_limit one ≡ unplaced_limit other)
+same_limit at from name sign bound other_bound b = cc
+
+limit_again : (limit : LimitTree) → Again IsLimit unplaced_limit (unplaced_limit limit) (limit_words limit)
+limit_again limit = λ printed h.
+    let end : List Word = mark kinds.CloseParen 0 ∷ [] in
+    let from_sign : List Word = mark (limit_sign limit.sign) 0 ∷ (literal_words limit.bound ++ end) in
+    let key = cut_ident WHERE (mark kinds.OpenParen 0 ∷ (ident limit.subject.name 0 ∷ from_sign)) printed h in
+    let opening = cut_mark kinds.OpenParen (ident limit.subject.name 0 ∷ from_sign) key.1.rest key.1.bare_rest in
+    let subject = cut_ident limit.subject.name from_sign opening.rest opening.bare_rest in
+    let sign = cut_mark (limit_sign limit.sign) (literal_words limit.bound ++ end) subject.1.rest subject.1.bare_rest in
+    let bound = cut_tree (literal_again limit.bound) end sign.rest sign.bare_rest in
+    let closing = last_mark kinds.CloseParen bound.cut.rest bound.cut.bare_rest in
+    let made : LimitTree = record { subject = record { at = subject.0; name = limit.subject.name }; sign = limit.sign; bound = bound.again } in
+    let compared : (IsIdent limit.subject.name subject.0 ⌢ IsMark (limit_sign limit.sign) ⌢ IsLiteral bound.again ⌢ IsMark kinds.CloseParen) opening.rest =
+    (subject.1.front, subject.1.rest, subject.1.first, (sign.front, sign.rest, sign.first, (bound.cut.front, bound.cut.rest, bound.cut.first, closing, bound.cut.is), sign.is), subject.1.is) in
+    let whole : IsLimit made printed = (key.1.front, key.1.rest, (key.0, key.1.first), (opening.front, opening.rest, opening.first, compared, opening.is), key.1.is) in
+    (made, whole, same_limit subject.0 limit.subject.at limit.subject.name limit.sign bound.again limit.bound bound.same)
+
+regroup_parameter : (name : List ℕ) (value limit : List Word)
+    → ident PARAM 0 ∷ ident name 0 ∷ mark kinds.Assign 0 ∷ value ++ limit ++ mark kinds.Semicolon 0 ∷ []
+    ≡ ident PARAM 0 ∷ (ident name 0 ∷ (mark kinds.Assign 0 ∷ (value ++ (limit ++ (mark kinds.Semicolon 0 ∷ [])))))
+regroup_parameter name value limit = simp append_assoc
+
+parameter_again : (at : ℕ) (name : List ℕ) (value : Lit) (limit : LimitTree) → Again IsDeclaration unplaced_declaration (unplaced_declaration (decls.Param at name value limit)) (declaration_words (decls.Param at name value limit))
+parameter_again at name value limit = λ printed h.
+    let end : List Word = mark kinds.Semicolon 0 ∷ [] in
+    let from_value : List Word = literal_words value ++ (limit_words limit ++ end) in
+    let key = cut_ident PARAM (ident name 0 ∷ (mark kinds.Assign 0 ∷ from_value)) printed (h ∙ regroup_parameter name (literal_words value) (limit_words limit)) in
+    let named = cut_ident name (mark kinds.Assign 0 ∷ from_value) key.1.rest key.1.bare_rest in
+    let assign = cut_mark kinds.Assign from_value named.1.rest named.1.bare_rest in
+    let v = cut_tree (literal_again value) (limit_words limit ++ end) assign.rest assign.bare_rest in
+    let l = cut_tree (limit_again limit) end v.cut.rest v.cut.bare_rest in
+    let semicolon = last_mark kinds.Semicolon l.cut.rest l.cut.bare_rest in
+    let valued : (IsLiteral v.again ⌢ IsLimit l.again ⌢ IsMark kinds.Semicolon) assign.rest =
+    (v.cut.front, v.cut.rest, v.cut.first, (l.cut.front, l.cut.rest, l.cut.first, semicolon, l.cut.is), v.cut.is) in
+    let whole : IsDeclaration (decls.Param named.0 name v.again l.again) printed =
+    (key.1.front, key.1.rest, (key.0, key.1.first), (named.1.front, named.1.rest, named.1.first, (assign.front, assign.rest, assign.first, valued, assign.is), named.1.is), key.1.is) in
+    (decls.Param named.0 name v.again l.again, whole, ap (λ (seen : Lit). decls.Param 0 name seen (unplaced_limit l.again)) v.same ∙ ap (decls.Param 0 name (unplaced_literal value)) l.same)
+
 declaration_again : (declaration : Decl) (ws : List Word) → IsDeclaration declaration ws → Again IsDeclaration unplaced_declaration (unplaced_declaration declaration) (declaration_words declaration)
 declaration_again (decls.Const at name value) ws is = λ printed h.
     let v = valued_again kinds.KeyConst name value printed h in
     (decls.Const v.at name v.again, v.derived, ap (decls.Const 0 name) v.same)
+declaration_again (decls.Param at name value limit) ws is = parameter_again at name value limit
 declaration_again (decls.Int at name value) ws is = λ printed h.
     let v = valued_again kinds.KeyInt name value printed h in
     (decls.Int v.at name v.again, v.derived, ap (decls.Int 0 name) v.same)
+declaration_again (decls.Copied at name source) ws is = λ printed h.
+    let c = copied_again name source printed h in
+    (decls.Copied c.0 name (record { at = c.1; name = source.name }), c.2, refl)
 declaration_again (decls.Flag at name value) ws is = λ printed h.
     let f = flag_again name value printed h in
     (decls.Flag f.0 name value, f.1, refl)
 
 local_again : (local : Decl) (ws : List Word) → IsLocal local ws → Again IsLocal unplaced_declaration (unplaced_declaration local) (local_words local)
 local_again (decls.Const at name value) ws is = absurd is
+local_again (decls.Param at name value limit) ws is = absurd is
+local_again (decls.Copied at name source) ws is = absurd is
 local_again (decls.Int at name value) ws is = λ printed h.
     let key = cut_mark kinds.KeyLocal (mark kinds.KeyInt 0 ∷ valued_words name value) printed h in
     let v = valued_again kinds.KeyInt name value key.rest key.bare_rest in

@@ -5,6 +5,9 @@ use Rattle.std.specs.List.{flat_map}
 use Rattle.lang_tokens.specs.declared.token.TokenKind.TheVariants as kinds
 use Rattle.lang_tokens.specs.declared.token.Token.{Token}
 use Rattle.lang_tree.specs.declared.tree.Lit.{Lit}
+use Rattle.lang_tree.specs.declared.tree.LimitSign.{LimitSign}
+use Rattle.lang_tree.specs.declared.tree.LimitSign.TheVariants as signs
+use Rattle.lang_tree.specs.declared.tree.LimitTree.{LimitTree}
 use Rattle.lang_tree.specs.declared.tree.Decl.{Decl}
 use Rattle.lang_tree.specs.declared.tree.Decl.TheVariants as decls
 use Rattle.lang_base.specs.declared.kind.Kind.{Kind}
@@ -19,9 +22,9 @@ use Rattle.lang_tree.specs.declared.tree.MonitorTree.{MonitorTree}
 use Rattle.lang_tokens.specs.Spelling.{Spells}
 use Rattle.lang_tokens.specs.inner.Pieces.{longest_at, other_at}
 use Rattle.lang_tokens.specs.Words.{Word, ident, mark, words}
-use Rattle.lang_syntax.specs.Grammar.{kind_word, ASSERTS}
-use Rattle.lang_printer.specs.Canonical.{otherwise, statement_step, statement_text, literal_text, declared_text, declaration_text, local_text, opening_text, guarded_text, lines_text, blocks_text, kind_text, input_text, input_texts, joined, method_text, tree_text}
-use Rattle.lang_syntax.proofs.CanonicalWords.{bare, expression_words, else_words, statement_words_step, statement_words, literal_words, declaration_words, input_words, inputs_words, local_words, opening_word, guarded_words, method_words, tree_words}
+use Rattle.lang_syntax.specs.Grammar.{limit_sign, kind_word, WHERE, PARAM, ASSERTS}
+use Rattle.lang_printer.specs.Canonical.{otherwise, statement_step, statement_text, literal_text, limit_sign_text, limit_text, declared_text, declaration_text, local_text, opening_text, guarded_text, lines_text, blocks_text, kind_text, input_text, input_texts, joined, method_text, tree_text}
+use Rattle.lang_syntax.proofs.CanonicalWords.{bare, expression_words, else_words, statement_words_step, statement_words, literal_words, limit_words, declaration_words, input_words, inputs_words, local_words, opening_word, guarded_words, method_words, tree_words}
 use Rattle.lang_syntax.proofs.CanonicalPieces.{Reads, reads_nothing, spells_words, Says, ◌▷◌, ◌▶◌, less, says_nothing, says_same, space, line_feed, begin_brace, end_brace, begin_paren, end_paren, semicolon, comma, minus, between_blanks, keyword, name, number}
 use Rattle.lang_syntax.proofs.SpelledExpressions.{expression, truth}
 use Rattle.lang_syntax.proofs.Printable.{IsPrintableWord, ArePrintable, IsPrintable, printable_front, printable_back, statement_layer}
@@ -123,6 +126,40 @@ literal_of false at digits ok = number digits ok.0
 pub literal : (l : Lit) → ArePrintable (literal_words l) → Says true false (literal_text l) (literal_words l)
 literal l ok = literal_of l.minus l.at l.digits ok
 
+sign : (s : LimitSign) → Says false true (limit_sign_text s) (mark (limit_sign s) 0 ∷ [])
+unfolding longest_at other_at
+sign signs.Equal = between_blanks (codes "==") kinds.Equal (λ rest. refl)
+sign signs.Less = between_blanks (codes "<") kinds.Less (λ rest. refl)
+sign signs.AtMost = between_blanks (codes "<=") kinds.AtMost (λ rest. refl)
+sign signs.More = between_blanks (codes ">") kinds.More (λ rest. refl)
+sign signs.AtLeast = between_blanks (codes ">=") kinds.AtLeast (λ rest. refl)
+
+-- a parameter's condition, without the word and the parentheses around it
+abbrev condition_words : LimitTree → List Word
+condition_words l = ident l.subject.name 0 ∷ mark (limit_sign l.sign) 0 ∷ literal_words l.bound
+
+condition : (l : LimitTree) → ArePrintable (condition_words l) → Says true false (limit_text l) (condition_words l)
+condition l ok = name l.subject.name ok.0 ▶ sign l.sign ▷ literal l.bound ok.1.1
+
+parameter_group : (k v w b c e : List Word) → (((k ++ v) ++ w) ++ b) ++ (c ++ e) ≡ ((k ++ v) ++ ((w ++ b) ++ c)) ++ e
+parameter_group k v w b c e = simp append_assoc
+
+parameter : (target : List ℕ) (at : ℕ) (value : Lit) (l : LimitTree) → ArePrintable (declaration_words (decls.Param at target value l)) → Says false false (declared_text (decls.Param at target value l)) (declaration_words (decls.Param at target value l))
+parameter target at value l ok =
+    let k = ident PARAM 0 ∷ ident target 0 ∷ mark kinds.Assign 0 ∷ [] in
+    let v = literal_words value in
+    let w = ident WHERE 0 ∷ mark kinds.OpenParen 0 ∷ [] in
+    let c = mark kinds.CloseParen 0 ∷ [] in
+    let e = mark kinds.Semicolon 0 ∷ [] in
+    let front = printable_front ((k ++ v) ++ limit_words l) e ok in
+    let first = printable_front (k ++ v) (limit_words l) front in
+    let second = printable_back (k ++ v) (limit_words l) front in
+    let compared = printable_front (w ++ condition_words l) c second in
+    let head : Says false false (codes "param ") (ident PARAM 0 ∷ []) = name PARAM first.0 ▶ space in
+    let begin : Says false true (codes " where (") w = space ▷ name WHERE second.0 ▶ space ▷ begin_paren in
+    let last : Says false true (codes ");\n") (c ++ e) = end_paren ▷ line_end in
+    says_same refl (parameter_group k v w (condition_words l) c e) (head ▷ name target first.1.0 ▶ assign ▷ literal value first.1.1.1 ▶ begin ▷ condition l compared.1.1 ▶ last)
+
 declared : (d : Decl) → ArePrintable (declaration_words d) → Says false false (declared_text d) (declaration_words d)
 declared (decls.Const at target value) ok =
     let head : Says false false (codes "const ") (mark kinds.KeyConst 0 ∷ []) = keyword 99 (codes "onst") refl refl (omega arith) ▶ space in
@@ -130,6 +167,10 @@ declared (decls.Const at target value) ok =
 declared (decls.Int at target value) ok =
     let head : Says false false (codes "int ") (mark kinds.KeyInt 0 ∷ []) = keyword 105 (codes "nt") refl refl (omega arith) ▶ space in
     head ▷ name target ok.1.0 ▶ assign ▷ literal value (printable_front (literal_words value) (mark kinds.Semicolon 0 ∷ []) ok.1.1.1) ▶ line_end
+declared (decls.Param at target value l) ok = parameter target at value l ok
+declared (decls.Copied at target source) ok =
+    let head : Says false false (codes "int ") (mark kinds.KeyInt 0 ∷ []) = keyword 105 (codes "nt") refl refl (omega arith) ▶ space in
+    head ▷ name target ok.1.0 ▶ assign ▷ name source.name ok.1.1.1.0 ▶ line_end
 declared (decls.Flag at target value) ok =
     let head : Says false false (codes "bool ") (mark kinds.KeyBool 0 ∷ []) = keyword 98 (codes "ool") refl refl (omega arith) ▶ space in
     head ▷ name target ok.1.0 ▶ assign ▷ truth value ▶ line_end

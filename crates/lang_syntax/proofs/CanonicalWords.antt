@@ -4,6 +4,7 @@ use Rattle.std.specs.Prelude.{nat_lt, if◌then◌else◌}
 use Rattle.std.specs.List.{flat_map}
 use Rattle.lang_tokens.specs.declared.token.TokenKind.TheVariants as kinds
 use Rattle.lang_tree.specs.declared.tree.Lit.{Lit}
+use Rattle.lang_tree.specs.declared.tree.LimitTree.{LimitTree}
 use Rattle.lang_tree.specs.declared.tree.Decl.{Decl}
 use Rattle.lang_tree.specs.declared.tree.Decl.TheVariants as decls
 use Rattle.lang_tree.specs.declared.tree.InputTree.{InputTree}
@@ -17,7 +18,7 @@ use Rattle.lang_tree.specs.declared.tree.BlockTree.{BlockTree}
 use Rattle.lang_tree.specs.declared.tree.MethodTree.{MethodTree}
 use Rattle.lang_tree.specs.declared.tree.MonitorTree.{MonitorTree}
 use Rattle.lang_tokens.specs.Words.{Word, ident, numeral, mark}
-use Rattle.lang_syntax.specs.Grammar.{truth_word, op_sign, sum_sign, kind_word, ASSERTS}
+use Rattle.lang_syntax.specs.Grammar.{truth_word, op_sign, limit_sign, sum_sign, kind_word, WHERE, PARAM, ASSERTS}
 
 -- a word without its offset
 abbrev pub bare : Word → Word
@@ -90,9 +91,16 @@ minus_words false = []
 abbrev pub literal_words : Lit → List Word
 literal_words literal = minus_words literal.minus ++ numeral literal.digits 0 ∷ []
 
+abbrev pub limit_words : LimitTree → List Word
+limit_words limit =
+    ident WHERE 0 ∷ mark kinds.OpenParen 0 ∷ ident limit.subject.name 0 ∷ mark (limit_sign limit.sign) 0
+    ∷ literal_words limit.bound ++ mark kinds.CloseParen 0 ∷ []
+
 abbrev pub declaration_words : Decl → List Word
 declaration_words (decls.Const at name value) = mark kinds.KeyConst 0 ∷ ident name 0 ∷ mark kinds.Assign 0 ∷ literal_words value ++ mark kinds.Semicolon 0 ∷ []
+declaration_words (decls.Param at name value limit) = ident PARAM 0 ∷ ident name 0 ∷ mark kinds.Assign 0 ∷ literal_words value ++ limit_words limit ++ mark kinds.Semicolon 0 ∷ []
 declaration_words (decls.Int at name value) = mark kinds.KeyInt 0 ∷ ident name 0 ∷ mark kinds.Assign 0 ∷ literal_words value ++ mark kinds.Semicolon 0 ∷ []
+declaration_words (decls.Copied at name source) = mark kinds.KeyInt 0 ∷ ident name 0 ∷ mark kinds.Assign 0 ∷ ident source.name 0 ∷ mark kinds.Semicolon 0 ∷ []
 declaration_words (decls.Flag at name value) = mark kinds.KeyBool 0 ∷ ident name 0 ∷ mark kinds.Assign 0 ∷ mark (truth_word value) 0 ∷ mark kinds.Semicolon 0 ∷ []
 
 abbrev pub input_words : InputTree → List Word

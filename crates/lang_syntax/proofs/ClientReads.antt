@@ -6,7 +6,7 @@ use Rattle.lang_tokens.specs.declared.token.Token.{Token}
 use Rattle.lang_tree.specs.declared.tree.Item.{Item}
 use Rattle.lang_tree.specs.declared.tree.ClientTree.{ClientTree}
 use Rattle.lang_tree.specs.declared.tree.ClientsTree.{ClientsTree}
-use Rattle.lang_cursor.specs.declared.word.PlacedName.{PlacedName}
+use Rattle.lang_tree.specs.declared.tree.PlacedName.{PlacedName}
 use Rattle.lang_tokens.specs.Words.{Word, words}
 use Rattle.lang_syntax.specs.Grammar.{Rule, ◌⌢◌, Each, IsBlock, IsIdent, IsMark}
 use Rattle.lang_syntax.specs.ClientGrammar.{IsItem, IsClient, IsClientFile}

@@ -10,6 +10,7 @@ use Rattle.lang_tokens.specs.declared.token.TokenKind.{TokenKind}
 use Rattle.lang_tokens.specs.declared.token.TokenKind.TheVariants as kinds
 use Rattle.lang_tokens.specs.declared.token.Token.{Token}
 use Rattle.lang_tree.specs.declared.tree.Lit.{Lit}
+use Rattle.lang_tree.specs.declared.tree.LimitTree.{LimitTree}
 use Rattle.lang_tree.specs.declared.tree.Decl.{Decl}
 use Rattle.lang_tree.specs.declared.tree.Decl.TheVariants as decls
 use Rattle.lang_tree.specs.declared.tree.InputTree.{InputTree}
@@ -29,8 +30,8 @@ use Rattle.lang_tree.specs.declared.tree.MethodTree.{MethodTree}
 use Rattle.lang_tree.specs.declared.tree.MonitorTree.{MonitorTree}
 use Rattle.lang_tokens.specs.Spelling.{is_digit, IsToken, IsDecimal, IsIdentifier, Spells, text_of}
 use Rattle.lang_tokens.specs.Words.{Word, ident, mark, word_of, words, decimal_value}
-use Rattle.lang_syntax.specs.Grammar.{Rule, ◌⌢◌, Each, OneOrMore, IsIdent, IsNumeral, IsMarkAt, IsMark, chain, IsFactor, IsProduct, IsAddend, IsSum, comparison, IsCompared, IsComparison, both, IsConjunction, either, IsDisjunction, Maybe, IsAtom, IsOpened, IsUnary, IsExpression, IsBlock, IsElse, IsSimple, IsIf, IsStatement, after_minus, IsLiteral, IsDeclaration, IsInput, AreInputs, IsLocal, IsGuarded, ASSERTS, IsAsserted, AreBlocks, IsMethod, IsMonitorFile, Derives, truth_word, op_sign, sum_sign, kind_word}
-use Rattle.lang_syntax.proofs.CanonicalWords.{Spelled, spelled, spelled_step, words_at, in_parentheses, addend_words, factor_words, expression_words, else_words, statement_words, statement_words_step, literal_words, declaration_words, input_words, inputs_words, local_words, opening_word, guarded_words, method_words}
+use Rattle.lang_syntax.specs.Grammar.{Rule, ◌⌢◌, Each, IsIdent, IsSpelled, IsNumeral, IsMarkAt, IsMark, chain, IsFactor, IsProduct, IsAddend, IsSum, comparison, IsCompared, IsComparison, both, IsConjunction, either, IsDisjunction, Maybe, IsAtom, IsOpened, IsUnary, IsExpression, IsBlock, IsElse, IsSimple, IsIf, IsStatement, after_minus, IsLiteral, WHERE, PARAM, IsLimit, IsDeclaration, IsInput, AreInputs, IsLocal, IsGuarded, ASSERTS, IsAsserted, AreBlocks, IsMethod, IsMonitorFile, Derives, truth_word, op_sign, limit_sign, sum_sign, kind_word}
+use Rattle.lang_syntax.proofs.CanonicalWords.{Spelled, spelled, spelled_step, words_at, in_parentheses, addend_words, factor_words, expression_words, else_words, statement_words, statement_words_step, literal_words, limit_words, declaration_words, input_words, inputs_words, local_words, opening_word, guarded_words, method_words}
 use Rattle.lang_tokens.proofs.Digits.{digit_is}
 use Rattle.lang_tokens.proofs.Numerals.{tokens_are}
 use Rattle.lang_syntax.proofs.Printable.{IsPrintableWord, ArePrintable, IsPrintable, printable_front, printable_back, printable_both, addend_tail, factor_tail, expression_layer, statement_layer}
@@ -94,6 +95,9 @@ infixl 21 ◌<&◌
 
 is_name : (name : List ℕ) (at : ℕ) → Gives (IsIdent name at) (IsIdentifier name)
 is_name name at = record { gives = λ ws r ok. let whole = subst ArePrintable r ok in whole.0 }
+
+is_spelled : (letters : List ℕ) → Gives (IsSpelled letters) (IsIdentifier letters)
+is_spelled letters = record { gives = λ ws r ok. (is_name letters r.0).gives ws r.1 ok }
 
 is_number : (value at : ℕ) → Gives (IsNumeral value at) (value < 10 ^ 32)
 is_number value at = record { gives = λ ws r ok. let whole = subst ArePrintable r ok in whole.0 }
@@ -297,13 +301,27 @@ literal_of false at digits = record { gives = λ ws r ok. ((is_number digits at)
 literal : (l : Lit) → Gives (IsLiteral l) (ArePrintable (literal_words l))
 literal l = literal_of l.minus l.at l.digits
 
+limit : (l : LimitTree) → Gives (IsLimit l) (ArePrintable (limit_words l))
+limit l = record {
+  gives = λ ws r ok.
+      let got = (is_spelled WHERE & (IsMark kinds.OpenParen &> (is_name l.subject.name l.subject.at & (IsMark (limit_sign l.sign) &> (literal l.bound <& IsMark kinds.CloseParen))))).gives ws r ok in
+      (got.0, (tt, (got.1.0, (tt, printable_both (literal_words l.bound) (mark kinds.CloseParen 0 ∷ []) got.1.1 (tt, tt)))));
+}
+
 declaration_rule : (d : Decl) (ws : List Word) → IsDeclaration d ws → ArePrintable ws → ArePrintable (declaration_words d)
 declaration_rule (decls.Const at name value) ws r ok =
     let got = (IsMark kinds.KeyConst &> (is_name name at & (IsMark kinds.Assign &> (literal value <& IsMark kinds.Semicolon)))).gives ws r ok in
     (tt, (got.0, (tt, semicolon (literal_words value) got.1)))
+declaration_rule (decls.Param at name value l) ws r ok =
+    let got = (is_spelled PARAM & (is_name name at & (IsMark kinds.Assign &> (literal value & (limit l <& IsMark kinds.Semicolon))))).gives ws r ok in
+    let front = ident PARAM 0 ∷ ident name 0 ∷ mark kinds.Assign 0 ∷ literal_words value in
+    semicolon (front ++ limit_words l) (printable_both front (limit_words l) (got.0, (got.1.0, (tt, got.1.1.0))) got.1.1.1)
 declaration_rule (decls.Int at name value) ws r ok =
     let got = (IsMark kinds.KeyInt &> (is_name name at & (IsMark kinds.Assign &> (literal value <& IsMark kinds.Semicolon)))).gives ws r ok in
     (tt, (got.0, (tt, semicolon (literal_words value) got.1)))
+declaration_rule (decls.Copied at name source) ws r ok =
+    let got = (IsMark kinds.KeyInt &> (is_name name at & (IsMark kinds.Assign &> (is_name source.name source.at <& IsMark kinds.Semicolon)))).gives ws r ok in
+    (tt, (got.0, (tt, (got.1, (tt, tt)))))
 declaration_rule (decls.Flag at name value) ws r ok =
     let got = (IsMark kinds.KeyBool &> (is_name name at <& (IsMark kinds.Assign ⌢ IsMark (truth_word value) ⌢ IsMark kinds.Semicolon))).gives ws r ok in
     (tt, (got, (tt, (tt, (tt, tt)))))
@@ -327,6 +345,8 @@ all_inputs (i ∷ is) = record {
 
 local_rule : (d : Decl) (ws : List Word) → IsLocal d ws → ArePrintable ws → ArePrintable (local_words d)
 local_rule (decls.Const at name value) ws r ok = absurd r
+local_rule (decls.Param at name value limit) ws r ok = absurd r
+local_rule (decls.Copied at name source) ws r ok = absurd r
 local_rule (decls.Int at name value) ws r ok = (tt, (IsMark kinds.KeyLocal &> declaration (decls.Int at name value)).gives ws r ok)
 local_rule (decls.Flag at name value) ws r ok = (tt, (IsMark kinds.KeyLocal &> declaration (decls.Flag at name value)).gives ws r ok)
 

@@ -5,6 +5,7 @@ pub mod Sequences
 pub mod ExpressionReads
 pub mod StatementReads
 pub mod FileFaults
+pub mod DeclarationReads
 pub mod MonitorReads
 pub mod ItemReads
 pub mod ClientReads

@@ -12,7 +12,8 @@ use Rattle.lang_syntax.proofs.Readers.{Reads, Anything, shorter}
 use Rattle.lang_syntax.proofs.Openings.{begins_none, listed_none}
 use Rattle.lang_syntax.proofs.ExpressionReads.{NoStar, IsPart, IsInner, AfterInner, factor_reads, factor_begins, addend_reads, addend_begins, part_reads, part_begins, inner_reads, unary_reads}
 use Rattle.lang_syntax.proofs.StatementReads.{NoElse, no_statement, statement_reads, statement_begins}
-use Rattle.lang_syntax.proofs.MonitorReads.{no_declaration, declaration_reads, declaration_begins, IsLaterInput, later_input_reads, later_input_begins, local_reads, local_begins, guarded_reads, guarded_begins, NoBlock, method_reads, method_begins}
+use Rattle.lang_syntax.proofs.DeclarationReads.{no_declaration, declaration_reads, declaration_begins}
+use Rattle.lang_syntax.proofs.MonitorReads.{IsLaterInput, later_input_reads, later_input_begins, local_reads, local_begins, guarded_reads, guarded_begins, NoBlock, method_reads, method_begins}
 use Rattle.lang_syntax.proofs.ItemReads.{IsLaterArgument, later_argument_reads, later_argument_begins, no_item, item_reads, item_begins}
 use Rattle.lang_syntax.proofs.ClientReads.{client_reads, client_begins}
 

@@ -1,11 +1,9 @@
--- The readers of a monitor file's parts, and of the whole file.
+-- The readers of a monitor file's inputs, methods and blocks, and of the whole file.
 use Rattle.std.proofs.Common.{◌≡◌, ℕ, ◌-◌, Bool, true, false, List, [], ◌∷◌, ◌++◌, length, drop, Ok, Err, refl, sym, ap, subst, ◌∙◌, inl, inr}
 use Rattle.std.specs.Prelude.{◌⊎◌}
 use Rattle.lang_base.specs.Limits.{LEVELS}
-use Rattle.lang_tokens.specs.declared.token.TokenKind.{TokenKind}
 use Rattle.lang_tokens.specs.declared.token.TokenKind.TheVariants as kinds
 use Rattle.lang_tokens.specs.declared.token.Token.{Token}
-use Rattle.lang_tree.specs.declared.tree.Lit.{Lit}
 use Rattle.lang_tree.specs.declared.tree.Decl.{Decl}
 use Rattle.lang_tree.specs.declared.tree.Decl.TheVariants as decls
 use Rattle.lang_base.specs.declared.kind.Kind.{Kind}
@@ -16,173 +14,20 @@ use Rattle.lang_tree.specs.declared.tree.StmtTree.{StmtTree}
 use Rattle.lang_tree.specs.declared.tree.BlockTree.{BlockTree}
 use Rattle.lang_tree.specs.declared.tree.MethodTree.{MethodTree}
 use Rattle.lang_tree.specs.declared.tree.MonitorTree.{MonitorTree}
-use Rattle.lang_cursor.specs.declared.word.PlacedName.{PlacedName}
-use Rattle.lang_tokens.specs.Words.{Word, ident, numeral, words}
-use Rattle.lang_syntax.specs.Grammar.{Rule, ◌⌢◌, Each, OneOrMore, IsIdent, IsNumeral, IsMarkAt, IsMark, truth_word, kind_word, IsExpression, IsBlock, IsStatement, after_minus, IsLiteral, IsDeclaration, IsInput, AreInputs, IsLocal, IsGuarded, ASSERTS, IsAsserted, Single, AreBlocks, IsMethod, IsMonitorFile}
+use Rattle.lang_tree.specs.declared.tree.PlacedName.{PlacedName}
+use Rattle.lang_tokens.specs.Words.{Word, ident, words}
+use Rattle.lang_syntax.specs.Grammar.{Rule, ◌⌢◌, Each, OneOrMore, IsIdent, IsMarkAt, IsMark, kind_word, IsExpression, IsBlock, IsStatement, IsDeclaration, IsInput, AreInputs, IsLocal, IsGuarded, ASSERTS, IsAsserted, Single, AreBlocks, IsMethod, IsMonitorFile}
 use Rattle.lang_syntax.specs.Fault.{IsFaultAt}
-use Rattle.lang_cursor.specs.Reading.{first_offset, Read, ◌⊗◌, made_at, choice_at, pure_at, each_at, placed_at, mark_at, ident_at, spelled_at, numeral_at, listed_at, truth_of, kind_of, begins, begins_listed, begins_spelled}
-use Rattle.lang_syntax.specs.inner.Reading.{begins_declaration, condition_at, block_at, statement_at, literal_of, negative_of, literal_at, Declared, constant_of, int_of, flag_of, declared_at, constant_at, int_at, flag_at, variable_at, declaration_at, declarations_at, input_of, input_at, later_input_of, later_input_at, later_inputs_at, inputs_of, some_inputs_at, inputs_at, head_of, head_at, local_of, local_at, locals_at, guarded_of, guarded_at, later_blocks_at, blocks_of, blocks_at, asserted_at, waiting_of, asserting_of, method_blocks_at, method_of, method_at, methods_at, monitor_of, monitor_at, monitor_file}
+use Rattle.lang_cursor.specs.Reading.{first_offset, Read, ◌⊗◌, made_at, choice_at, pure_at, each_at, placed_at, mark_at, ident_at, spelled_at, listed_at, kind_of, begins, begins_listed, begins_spelled}
+use Rattle.lang_syntax.specs.inner.Reading.{begins_declaration, condition_at, block_at, statement_at, variable_at, declarations_at, input_of, input_at, later_input_of, later_input_at, later_inputs_at, inputs_of, some_inputs_at, inputs_at, head_of, head_at, local_of, local_at, locals_at, guarded_of, guarded_at, later_blocks_at, blocks_of, blocks_at, asserted_at, waiting_of, asserting_of, method_blocks_at, method_of, method_at, methods_at, monitor_of, monitor_at, monitor_file}
 use Rattle.lang_syntax.proofs.Readers.{Reads, Anything, Both, pair_reads, made_reads, pure_reads, choice_reads, each_reads, before, whole_found, whole_again, whole_fault}
-use Rattle.lang_syntax.proofs.WordReads.{IsPlacedName, IsPlacedNumber, placed_reads, ident_reads, spelled_reads, begins_letters, numeral_reads, truth_reads, kind_reads, begins_heads, listed_heads, spelled_heads, declaration_heads}
-use Rattle.lang_syntax.proofs.Openings.{Opens, At, mark_opens, placed_opens, ident_opens, numeral_opens, then_opens, items_open, begins_none, begins_at, begun}
+use Rattle.lang_syntax.proofs.WordReads.{IsPlacedName, placed_reads, ident_reads, spelled_reads, begins_letters, kind_reads, begins_heads, listed_heads, spelled_heads}
+use Rattle.lang_syntax.proofs.Openings.{Opens, At, mark_opens, placed_opens, ident_opens, then_opens, items_open, begins_none, begins_at, begun}
 use Rattle.lang_syntax.proofs.Sequences.{five_right, five_left, three_right, three_left, within_second, Made, same_reads, mark_then, ident_then, then_mark, image_reads}
+use Rattle.lang_syntax.proofs.DeclarationReads.{IsVariable, variable_reads, NoDeclaration, declarations_read}
 use Rattle.lang_syntax.proofs.ExpressionReads.{IsParenthesized}
 use Rattle.lang_syntax.proofs.StatementReads.{condition_reads, body_reads}
 use Rattle.lang_syntax.proofs.FileFaults.{file_fault}
-
--- ---- literals
-
-abbrev IsNegative : Rule Lit
-IsNegative = Made negative_of (Both (λ (unit : Unit {0}). IsMark kinds.Minus) IsPlacedNumber)
-
-abbrev IsPlain : Rule Lit
-IsPlain = Made (literal_of false) IsPlacedNumber
-
-negative_opens : (x : Lit) → Opens (IsNegative x) (λ ws. begins kinds.Minus ws ≡ true)
-negative_opens x ws rest p =
-    then_opens (IsMark kinds.Minus) (IsPlacedNumber p.0.1) (λ ws. begins kinds.Minus ws ≡ true) (mark_opens kinds.Minus (λ ws. begins kinds.Minus ws ≡ true) (begins_at kinds.Minus)) ws rest p.2
-
-number_no_minus : (value at : ℕ) (rest : List Word) → begins kinds.Minus (numeral value at ∷ rest) ≡ false
-unfolding begins
-number_no_minus value at rest = refl
-
-plain_opens : (x : Lit) → Opens (IsPlain x) (λ ws. begins kinds.Minus ws ≡ false)
-plain_opens x ws rest p = numeral_opens p.0.value p.0.at (λ ws. begins kinds.Minus ws ≡ false) (number_no_minus p.0.value p.0.at) ws rest p.2
-
-signed_is : (at digits : ℕ) (minus : Bool) (ws : List Word) → after_minus minus (IsNumeral digits at) ws → (let x : Lit = record { at = at; minus = minus; digits = digits } in IsNegative x ws ⊎ IsPlain x ws)
-signed_is at digits true ws p = inl ((tt, record { at = at; value = digits }), refl, p)
-signed_is at digits false ws p = inr (record { at = at; value = digits }, refl, p)
-
-pub literal_reads : Reads IsLiteral literal_at Anything
-unfolding literal_at
-literal_reads =
-    same_reads (λ x ws. IsNegative x ws ⊎ IsPlain x ws) IsLiteral literal_at Anything
-    (choice_reads (begins kinds.Minus) IsNegative (made_at negative_of (mark_at kinds.Minus ⊗ numeral_at)) Anything IsPlain (made_at (literal_of false) numeral_at) Anything Anything (begins_heads kinds.Minus)
-    (image_reads (Both (λ (unit : Unit {0}). IsMark kinds.Minus) IsPlacedNumber) (mark_at kinds.Minus ⊗ numeral_at) Anything negative_of (mark_then kinds.Minus IsPlacedNumber numeral_at Anything numeral_reads))
-    (image_reads IsPlacedNumber numeral_at Anything (literal_of false) numeral_reads)
-    (λ x taken rest p after. (negative_opens x taken rest p, tt))
-    (λ x taken rest p after. (plain_opens x taken rest p, tt)))
-    to (λ x ws p. signed_is x.at x.digits x.minus ws p)
-  where
-    to : (x : Lit) (ws : List Word) → IsNegative x ws ⊎ IsPlain x ws → IsLiteral x ws
-    to x ws (inl p) = subst (λ (y : Lit). IsLiteral y ws) (sym p.1) p.2
-    to x ws (inr p) = subst (λ (y : Lit). IsLiteral y ws) (sym p.1) p.2
-
--- ---- declarations
-
--- a keyword, a name and a value
-abbrev IsDeclared : {Value : Type 0} → TokenKind → Rule Value → Rule (Declared Value)
-IsDeclared kind IsValue d = IsMark kind ⌢ IsPlacedName d.1.0 ⌢ IsMark kinds.Assign ⌢ IsValue d.1.1.1.0 ⌢ IsMark kinds.Semicolon
-
-declared_reads : {Value : Type 0} (kind : TokenKind) (IsValue : Rule Value) (value : List Word → Read Value) → Reads IsValue value Anything → Reads (IsDeclared kind IsValue) (declared_at kind value) Anything
-declared_reads {Value} kind IsValue value r =
-    mark_then kind (Both IsPlacedName IsAssigned) (ident_at ⊗ mark_at kinds.Assign ⊗ value ⊗ mark_at kinds.Semicolon) Anything
-    (ident_then IsAssigned (mark_at kinds.Assign ⊗ value ⊗ mark_at kinds.Semicolon) Anything
-    (mark_then kinds.Assign IsEnded (value ⊗ mark_at kinds.Semicolon) Anything (then_mark kinds.Semicolon IsValue value Anything r (λ at rest. tt))))
-  where
-    IsEnded : Rule (Value × Unit {0})
-    IsEnded = Both IsValue (λ (unit : Unit {0}). IsMark kinds.Semicolon)
-
-    IsAssigned : Rule (Unit {0} × (Value × Unit {0}))
-    IsAssigned = Both (λ (unit : Unit {0}). IsMark kinds.Assign) IsEnded
-
-declared_opens : {Value : Type 0} (make : Declared Value → Decl) (kind : TokenKind) (IsValue : Rule Value) (Fact : List Word → Type 0) → At kind Fact → (x : Decl) → Opens (Made make (IsDeclared kind IsValue) x) Fact
-declared_opens make kind IsValue Fact so x ws rest p =
-    then_opens (IsMark kind) (IsPlacedName p.0.1.0 ⌢ IsMark kinds.Assign ⌢ IsValue p.0.1.1.1.0 ⌢ IsMark kinds.Semicolon) Fact (mark_opens kind Fact so) ws rest p.2
-
-abbrev IsTruth : Rule Bool
-IsTruth value = IsMark (truth_word value)
-
-abbrev IsConst : Rule Decl
-IsConst = Made constant_of (IsDeclared kinds.KeyConst IsLiteral)
-
-abbrev IsInt : Rule Decl
-IsInt = Made int_of (IsDeclared kinds.KeyInt IsLiteral)
-
-abbrev IsFlag : Rule Decl
-IsFlag = Made flag_of (IsDeclared kinds.KeyBool IsTruth)
-
-constant_reads : Reads IsConst constant_at Anything
-unfolding constant_at
-constant_reads = image_reads (IsDeclared kinds.KeyConst IsLiteral) (declared_at kinds.KeyConst literal_at) Anything constant_of (declared_reads kinds.KeyConst IsLiteral literal_at literal_reads)
-
-int_reads : Reads IsInt int_at Anything
-unfolding int_at
-int_reads = image_reads (IsDeclared kinds.KeyInt IsLiteral) (declared_at kinds.KeyInt literal_at) Anything int_of (declared_reads kinds.KeyInt IsLiteral literal_at literal_reads)
-
-flag_reads : Reads IsFlag flag_at Anything
-unfolding flag_at
-flag_reads = image_reads (IsDeclared kinds.KeyBool IsTruth) (declared_at kinds.KeyBool (listed_at truth_of)) Anything flag_of (declared_reads kinds.KeyBool IsTruth (listed_at truth_of) truth_reads)
-
-int_no_const : At kinds.KeyInt (λ ws. begins kinds.KeyConst ws ≡ false)
-unfolding begins
-int_no_const at rest = refl
-
-bool_no_const : At kinds.KeyBool (λ ws. begins kinds.KeyConst ws ≡ false)
-unfolding begins
-bool_no_const at rest = refl
-
-bool_no_int : At kinds.KeyBool (λ ws. begins kinds.KeyInt ws ≡ false)
-unfolding begins
-bool_no_int at rest = refl
-
-abbrev IsVariable : Rule Decl
-IsVariable x ws = IsInt x ws ⊎ IsFlag x ws
-
-variable_reads : Reads IsVariable variable_at Anything
-unfolding variable_at
-variable_reads =
-    choice_reads (begins kinds.KeyInt) IsInt int_at Anything IsFlag flag_at Anything Anything (begins_heads kinds.KeyInt) int_reads flag_reads
-    (λ x taken rest p after. (declared_opens int_of kinds.KeyInt IsLiteral (λ ws. begins kinds.KeyInt ws ≡ true) (begins_at kinds.KeyInt) x taken rest p, tt))
-    (λ x taken rest p after. (declared_opens flag_of kinds.KeyBool IsTruth (λ ws. begins kinds.KeyInt ws ≡ false) bool_no_int x taken rest p, tt))
-
-pub declaration_reads : Reads IsDeclaration declaration_at Anything
-unfolding declaration_at
-declaration_reads =
-    same_reads (λ x ws. IsConst x ws ⊎ IsVariable x ws) IsDeclaration declaration_at Anything
-    (choice_reads (begins kinds.KeyConst) IsConst constant_at Anything IsVariable variable_at Anything Anything (begins_heads kinds.KeyConst) constant_reads variable_reads
-    (λ x taken rest p after. (declared_opens constant_of kinds.KeyConst IsLiteral (λ ws. begins kinds.KeyConst ws ≡ true) (begins_at kinds.KeyConst) x taken rest p, tt))
-    no_const)
-    to from
-  where
-    no_const : (x : Decl) (taken rest : List Word) → IsVariable x taken → Anything rest → (begins kinds.KeyConst (taken ++ rest) ≡ false) × Anything rest
-    no_const x taken rest (inl p) after = (declared_opens int_of kinds.KeyInt IsLiteral (λ ws. begins kinds.KeyConst ws ≡ false) int_no_const x taken rest p, tt)
-    no_const x taken rest (inr p) after = (declared_opens flag_of kinds.KeyBool IsTruth (λ ws. begins kinds.KeyConst ws ≡ false) bool_no_const x taken rest p, tt)
-
-    to : (x : Decl) (ws : List Word) → IsConst x ws ⊎ IsVariable x ws → IsDeclaration x ws
-    to x ws (inl p) = subst (λ (y : Decl). IsDeclaration y ws) (sym p.1) p.2
-    to x ws (inr (inl p)) = subst (λ (y : Decl). IsDeclaration y ws) (sym p.1) p.2
-    to x ws (inr (inr p)) = subst (λ (y : Decl). IsDeclaration y ws) (sym p.1) p.2
-
-    from : (x : Decl) (ws : List Word) → IsDeclaration x ws → IsConst x ws ⊎ IsVariable x ws
-    from (decls.Const at name value) ws p = inl ((tt, (record { at = at; name = name }, (tt, (value, tt)))), refl, p)
-    from (decls.Int at name value) ws p = inr (inl ((tt, (record { at = at; name = name }, (tt, (value, tt)))), refl, p))
-    from (decls.Flag at name value) ws p = inr (inr ((tt, (record { at = at; name = name }, (tt, (value, tt)))), refl, p))
-
--- the fact holds of a declaration's words, where it holds of each keyword that one begins with
-declaration_opens : (Fact : List Word → Type 0) → At kinds.KeyConst Fact → At kinds.KeyInt Fact → At kinds.KeyBool Fact → (x : Decl) → Opens (IsDeclaration x) Fact
-declaration_opens Fact of_const of_int of_bool (decls.Const at name value) =
-    then_opens (IsMark kinds.KeyConst) (IsIdent name at ⌢ IsMark kinds.Assign ⌢ IsLiteral value ⌢ IsMark kinds.Semicolon) Fact (mark_opens kinds.KeyConst Fact of_const)
-declaration_opens Fact of_const of_int of_bool (decls.Int at name value) =
-    then_opens (IsMark kinds.KeyInt) (IsIdent name at ⌢ IsMark kinds.Assign ⌢ IsLiteral value ⌢ IsMark kinds.Semicolon) Fact (mark_opens kinds.KeyInt Fact of_int)
-declaration_opens Fact of_const of_int of_bool (decls.Flag at name value) =
-    then_opens (IsMark kinds.KeyBool) (IsIdent name at ⌢ IsMark kinds.Assign ⌢ IsMark (truth_word value) ⌢ IsMark kinds.Semicolon) Fact (mark_opens kinds.KeyBool Fact of_bool)
-
-pub declaration_begins : (x : Decl) → Opens (IsDeclaration x) (λ ws. begins_declaration ws ≡ true)
-unfolding begins_declaration begins
-declaration_begins x = declaration_opens (λ ws. begins_declaration ws ≡ true) (λ at rest. refl) (λ at rest. refl) (λ at rest. refl) x
-
-pub no_declaration : begins_declaration [] ≡ false
-unfolding begins_declaration begins
-no_declaration = refl
-
-abbrev NoDeclaration : List Word → Type 0
-NoDeclaration ws = begins_declaration ws ≡ false
-
-declarations_read : Reads (Each IsDeclaration) declarations_at NoDeclaration
-unfolding declarations_at
-declarations_read = before (Each IsDeclaration) declarations_at (λ ws. NoDeclaration ws × Anything ws) NoDeclaration (λ ws none. (none, tt))
-    (each_reads begins_declaration IsDeclaration declaration_at Anything declaration_heads no_declaration declaration_reads declaration_begins (λ ws h. tt))
 
 -- ---- inputs
 
@@ -302,11 +147,15 @@ local_reads =
 
     from : (y : Decl) (ws : List Word) → IsLocal y ws → (x : Unit {0} × Decl) × (y ≡ local_of x) × Both (λ (unit : Unit {0}). IsMark kinds.KeyLocal) IsVariable x ws
     from (decls.Const at name value) ws p = absurd p
+    from (decls.Param at name value limit) ws p = absurd p
+    from (decls.Copied at name source) ws p = absurd p
     from (decls.Int at name value) ws p = ((tt, decls.Int at name value), refl, (p.0, p.1, p.2, inl ((tt, (record { at = at; name = name }, (tt, (value, tt)))), refl, p.3), p.4))
     from (decls.Flag at name value) ws p = ((tt, decls.Flag at name value), refl, (p.0, p.1, p.2, inr ((tt, (record { at = at; name = name }, (tt, (value, tt)))), refl, p.3), p.4))
 
 pub local_begins : (x : Decl) → Opens (IsLocal x) (λ ws. begins kinds.KeyLocal ws ≡ true)
 local_begins (decls.Const at name value) ws rest p = absurd p
+local_begins (decls.Param at name value limit) ws rest p = absurd p
+local_begins (decls.Copied at name source) ws rest p = absurd p
 local_begins (decls.Int at name value) ws rest p =
     then_opens (IsMark kinds.KeyLocal) (IsDeclaration (decls.Int at name value)) (λ ws. begins kinds.KeyLocal ws ≡ true) (mark_opens kinds.KeyLocal (λ ws. begins kinds.KeyLocal ws ≡ true) (begins_at kinds.KeyLocal)) ws rest p
 local_begins (decls.Flag at name value) ws rest p =
@@ -527,11 +376,11 @@ method_begins x = method_opens (λ ws. begins kinds.KeyMethod ws ≡ true) (begi
 -- ---- the monitor
 
 method_no_declaration : At kinds.KeyMethod NoDeclaration
-unfolding begins_declaration begins
+unfolding begins_declaration begins begins_spelled
 method_no_declaration at rest = refl
 
 brace_no_declaration : At kinds.CloseBrace NoDeclaration
-unfolding begins_declaration begins
+unfolding begins_declaration begins begins_spelled
 brace_no_declaration at rest = refl
 
 brace_no_method : At kinds.CloseBrace (λ ws. begins kinds.KeyMethod ws ≡ false)

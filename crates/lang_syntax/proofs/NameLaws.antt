@@ -5,7 +5,7 @@ use Rattle.std.specs.Prelude.{nat_lt, if◌then◌else◌}
 use Rattle.std.specs.List.{flat_map}
 use Rattle.std.proofs.lemmas.List.Concat.{flat_map-append}
 use Rattle.std.proofs.lemmas.List.Folds.{flat_map-map}
-use Rattle.std.proofs.lemmas.List.Elements.{All-append, All-cons, All-nil}
+use Rattle.std.proofs.lemmas.List.Elements.{All-append, All-cons, All-head, All-nil}
 use Rattle.lang_base.specs.Limits.{LEVELS}
 use Rattle.lang_tokens.specs.declared.token.TokenKind.{TokenKind}
 use Rattle.lang_tokens.specs.declared.token.TokenKind.TheVariants as kinds
@@ -31,12 +31,12 @@ use Rattle.lang_tree.specs.declared.tree.Item.TheVariants as items
 use Rattle.lang_tree.specs.declared.tree.Item.TheFolds.{fold-roll-Item}
 use Rattle.lang_tree.specs.declared.tree.ClientTree.{ClientTree}
 use Rattle.lang_tree.specs.declared.tree.ClientsTree.{ClientsTree}
-use Rattle.lang_tree.specs.Names.{Names, all_names, expression_names, expression_names_step, addend_names_step, factor_names_step, statement_names, statement_names_step, declared_name, block_names, method_names, names_in, item_names, item_names_step, client_names, names_in_clients}
+use Rattle.lang_tree.specs.Names.{Names, all_names, expression_names, expression_names_step, addend_names_step, factor_names_step, statement_names, statement_names_step, declared_name, used_names, declaration_names, block_names, method_names, names_in, item_names, item_names_step, client_names, names_in_clients}
 use Rattle.lang_tokens.specs.Spelling.{IsIdentifier, Spells}
 use Rattle.lang_tokens.specs.Words.{Word, ident, numeral, mark, words}
-use Rattle.lang_syntax.specs.Grammar.{◌⌢◌, Each, IsBlock, IsIdent, IsNumeral, IsMarkAt, IsMark, truth_word, Derives}
+use Rattle.lang_syntax.specs.Grammar.{◌⌢◌, Each, IsBlock, IsIdent, IsNumeral, IsMarkAt, IsMark, truth_word, PARAM, Derives}
 use Rattle.lang_syntax.specs.ClientGrammar.{IsArgument, AreArguments, IsCalled, IsCall, IsRepeat, IsItem, IsClient, DerivesClients}
-use Rattle.lang_syntax.proofs.CanonicalWords.{Spelled, in_parentheses, words_at, joined_words, spelled, spelled_step, addend_words, factor_words, expression_words, else_words, statement_words, statement_words_step, minus_words, literal_words, declaration_words, input_words, inputs_words, local_words, opening_word, guarded_words, method_words, tree_words}
+use Rattle.lang_syntax.proofs.CanonicalWords.{Spelled, in_parentheses, words_at, joined_words, spelled, spelled_step, addend_words, factor_words, expression_words, else_words, statement_words, statement_words_step, literal_words, limit_words, declaration_words, input_words, inputs_words, local_words, opening_word, guarded_words, method_words, tree_words}
 use Rattle.lang_syntax.proofs.Printable.{ArePrintable, printable_front, printable_back, addend_tail, factor_tail, expression_layer, statement_layer}
 use Rattle.lang_syntax.proofs.DerivedPrintable.{derived_printable, words_printable}
 use Rattle.lang_tokens.proofs.Numerals.{tokens_are}
@@ -209,23 +209,9 @@ statement_says = ind-StmtTree StatementSays (λ x y is. subst (λ (z : StmtTree-
 
 -- ---- files
 
-no_name : (minus : Bool) (digits : ℕ) → names_said (minus_words minus ++ numeral digits 0 ∷ []) ≡ []
-no_name true digits = refl
-no_name false digits = refl
-
-declaration_says : (d : Decl) → names_said (declaration_words d) ≡ declared_name d ∷ []
-declaration_says (decls.Const at name value) =
-    before_mark kinds.Semicolon (mark kinds.KeyConst 0 ∷ ident name 0 ∷ mark kinds.Assign 0 ∷ literal_words value) (name ∷ []) (ap (λ n. name ∷ n) (no_name value.minus value.digits))
-declaration_says (decls.Int at name value) =
-    before_mark kinds.Semicolon (mark kinds.KeyInt 0 ∷ ident name 0 ∷ mark kinds.Assign 0 ∷ literal_words value) (name ∷ []) (ap (λ n. name ∷ n) (no_name value.minus value.digits))
-declaration_says (decls.Flag at name value) = refl
-
 inputs_say : (inputs : List InputTree) → names_said (inputs_words inputs) ≡ map (λ input. input.name) inputs
 inputs_say [] = refl
 inputs_say (first ∷ rest) = ap (λ n. first.name ∷ n) (one_name (λ input. mark kinds.Comma 0 ∷ input_words input) (λ (input : InputTree). input.name) (λ input. refl) rest)
-
-local_says : (d : Decl) → names_said (local_words d) ≡ declared_name d ∷ []
-local_says d = declaration_says d
 
 pub all_identifiers : (ws : List Word) → ArePrintable ws → All IsIdentifier (names_said ws)
 all_identifiers [] ok = All-nil IsIdentifier
@@ -233,8 +219,8 @@ all_identifiers (ident name at ∷ ws) ok = All-cons IsIdentifier name (names_sa
 all_identifiers (numeral value at ∷ ws) ok = all_identifiers ws ok.1
 all_identifiers (mark kind at ∷ ws) ok = all_identifiers ws ok.1
 
--- A method's word `asserts` is no name of the tree. So from here on the names are those of words
--- that can be printed.
+-- The words `asserts`, `param` and `where` are no names of the tree. So from here on the names are
+-- those of words that can be printed.
 
 -- a block's words after the one that opens it
 abbrev after_opening : BlockTree → List Word
@@ -261,6 +247,30 @@ block_named opening block ok =
     let rest : ArePrintable (after_opening block) = ok.1 in
     subst (All IsIdentifier) (after_says block) (all_identifiers (after_opening block) rest)
 
+each_one_named : {X : Type 0} (ws : X → List Word) (name : X → List ℕ) → ((x : X) → ArePrintable (ws x) → IsIdentifier (name x)) → (xs : List X) → ArePrintable (flat_map ws xs) → All IsIdentifier (map name xs)
+each_one_named ws name one [] ok = All-nil IsIdentifier
+each_one_named ws name one (x ∷ xs) ok =
+    All-cons IsIdentifier (name x) (map name xs) (one x (printable_front (ws x) (flat_map ws xs) ok)) (each_one_named ws name one xs (printable_back (ws x) (flat_map ws xs) ok))
+
+one_named : (name : List ℕ) → IsIdentifier name → All IsIdentifier (name ∷ [])
+one_named name is = All-cons IsIdentifier name [] is (All-nil IsIdentifier)
+
+two_named : (name other : List ℕ) → IsIdentifier name → IsIdentifier other → All IsIdentifier (name ∷ other ∷ [])
+two_named name other is also = All-cons IsIdentifier name (other ∷ []) is (one_named other also)
+
+declaration_named : (d : Decl) → ArePrintable (declaration_words d) → All IsIdentifier (declaration_names d)
+declaration_named (decls.Const at name value) ok = one_named name ok.1.0
+declaration_named (decls.Param at name value limit) ok =
+    let front = ident PARAM 0 ∷ ident name 0 ∷ mark kinds.Assign 0 ∷ literal_words value in
+    let condition = printable_back front (limit_words limit) (printable_front (front ++ limit_words limit) (mark kinds.Semicolon 0 ∷ []) ok) in
+    two_named name limit.subject.name ok.1.0 condition.1.1.0
+declaration_named (decls.Int at name value) ok = one_named name ok.1.0
+declaration_named (decls.Copied at name source) ok = two_named name source.name ok.1.0 ok.1.1.1.0
+declaration_named (decls.Flag at name value) ok = one_named name ok.1.0
+
+local_named : (d : Decl) → ArePrintable (local_words d) → IsIdentifier (declared_name d)
+local_named d ok = All-head IsIdentifier (declared_name d) (used_names d) (declaration_named d ok.1)
+
 method_named : (m : MethodTree) → ArePrintable (method_words m) → All IsIdentifier (method_names m)
 method_named m ok =
     let head = mark kinds.KeyMethod 0 ∷ ident m.name 0 ∷ mark kinds.OpenParen 0 ∷ inputs_words m.inputs in
@@ -269,21 +279,23 @@ method_named m ok =
     let i = m.name ∷ map (λ (input : InputTree). input.name) m.inputs in
     let l = map declared_name m.locals in
     let b = flat_map block_names m.blocks in
-    let says = both_said head locals i l (ap (λ n. m.name ∷ n) (inputs_say m.inputs)) (one_name local_words declared_name local_says m.locals) in
-    let first = subst (All IsIdentifier) says (all_identifiers (head ++ locals) (printable_front (head ++ locals) (flat_map words m.blocks) ok)) in
+    let front = printable_front (head ++ locals) (flat_map words m.blocks) ok in
+    let inputs = subst (All IsIdentifier) (ap (λ n. m.name ∷ n) (inputs_say m.inputs)) (all_identifiers head (printable_front head locals front)) in
+    let kept = each_one_named local_words declared_name local_named m.locals (printable_back head locals front).1 in
     let blocks = each_named words block_names (block_named (opening_word m.asserts)) m.blocks (printable_back (head ++ locals) (flat_map words m.blocks) ok) in
-    subst (All IsIdentifier) (append_assoc i l b) (All-append IsIdentifier (i ++ l) b first blocks)
+    All-append IsIdentifier i (l ++ b) inputs (All-append IsIdentifier l b kept blocks)
 
 tree_named : (tree : MonitorTree) → ArePrintable (tree_words tree) → All IsIdentifier (names_in tree)
 tree_named tree ok =
     let head = mark kinds.KeyMonitor 0 ∷ ident tree.name 0 ∷ mark kinds.OpenBrace 0 ∷ flat_map declaration_words tree.decls in
     let methods = flat_map method_words tree.methods in
-    let d = tree.name ∷ map declared_name tree.decls in
+    let d = flat_map declaration_names tree.decls in
     let m = flat_map method_names tree.methods in
     let both = printable_front (head ++ methods) (mark kinds.CloseBrace 0 ∷ []) ok in
-    let says : names_said head ≡ d = ap (λ n. tree.name ∷ n) (one_name declaration_words declared_name declaration_says tree.decls) in
-    All-append IsIdentifier d m (subst (All IsIdentifier) says (all_identifiers head (printable_front head methods both)))
-    (each_named method_words method_names method_named tree.methods (printable_back head methods both))
+    let first = printable_front head methods both in
+    let declared = each_named declaration_words declaration_names declaration_named tree.decls first.1.1.1 in
+    let called = each_named method_words method_names method_named tree.methods (printable_back head methods both) in
+    All-cons IsIdentifier tree.name (d ++ m) first.1.0 (All-append IsIdentifier d m declared called)
 
 pub monitor_named : (bytes : List ℕ) (tokens : List Token) (tree : MonitorTree) → Spells bytes tokens → Derives bytes tokens tree → All IsIdentifier (names_in tree)
 monitor_named bytes tokens tree spelled derived = tree_named tree (derived_printable bytes tokens tree spelled derived)

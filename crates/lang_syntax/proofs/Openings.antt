@@ -3,7 +3,7 @@ use Rattle.std.proofs.Common.{◌≡◌, ℕ, Bool, true, false, List, [], ◌�
 use Rattle.lang_tokens.specs.declared.token.TokenKind.{TokenKind}
 use Rattle.lang_tree.specs.declared.tree.Expr.{Expr}
 use Rattle.lang_tokens.specs.Words.{Word, ident, numeral, mark}
-use Rattle.lang_syntax.specs.Grammar.{Rule, ◌⌢◌, Each, IsIdent, IsNumeral, IsMarkAt, IsMark, truth_word, IsAtom}
+use Rattle.lang_syntax.specs.Grammar.{Rule, ◌⌢◌, Each, IsIdent, IsSpelled, IsNumeral, IsMarkAt, IsMark, truth_word, IsAtom}
 use Rattle.lang_cursor.specs.Reading.{is_listed, begins, begins_listed, begins_ident}
 use Rattle.lang_syntax.proofs.WordReads.{same_kind, same_is_kind, IfListed}
 
@@ -23,6 +23,9 @@ placed_opens kind at Fact so ws rest is = subst (λ (f : List Word). Fact (f ++ 
 
 pub ident_opens : (name : List ℕ) (at : ℕ) (Fact : List Word → Type 0) → ((rest : List Word) → Fact (ident name at ∷ rest)) → Opens (IsIdent name at) Fact
 ident_opens name at Fact so ws rest is = subst (λ (f : List Word). Fact (f ++ rest)) (sym is) (so rest)
+
+pub spelled_opens : (letters : List ℕ) (Fact : List Word → Type 0) → ((at : ℕ) (rest : List Word) → Fact (ident letters at ∷ rest)) → Opens (IsSpelled letters) Fact
+spelled_opens letters Fact so ws rest is = ident_opens letters is.0 Fact (so is.0) ws rest is.1
 
 pub numeral_opens : (value at : ℕ) (Fact : List Word → Type 0) → ((rest : List Word) → Fact (numeral value at ∷ rest)) → Opens (IsNumeral value at) Fact
 numeral_opens value at Fact so ws rest is = subst (λ (f : List Word). Fact (f ++ rest)) (sym is) (so rest)

@@ -4,11 +4,11 @@ use Rattle.lang_tokens.specs.declared.token.TokenKind.{TokenKind}
 use Rattle.lang_tree.specs.declared.tree.Expr.{Expr}
 use Rattle.lang_tokens.specs.Words.{Word}
 use Rattle.lang_tokens.specs.declared.token.TokenKind.TheVariants as kinds
-use Rattle.lang_syntax.specs.Grammar.{Rule, ◌⌢◌, Each, IsBlock, IsMarkAt, IsMark, IsChain}
-use Rattle.lang_cursor.specs.Reading.{Read, ◌⊗◌, made_at, each_at, placed_at, mark_at, ident_at, numeral_at, body_of, braces_at}
+use Rattle.lang_syntax.specs.Grammar.{Rule, ◌⌢◌, Each, IsIdent, IsBlock, IsMarkAt, IsMark, IsChain}
+use Rattle.lang_cursor.specs.Reading.{Read, ◌⊗◌, made_at, each_at, placed_at, mark_at, ident_at, spelled_at, numeral_at, body_of, braces_at}
 use Rattle.lang_syntax.specs.inner.Reading.{chain_of}
 use Rattle.lang_syntax.proofs.Readers.{Reads, Anything, Heads, Both, pair_reads, made_reads, each_reads}
-use Rattle.lang_syntax.proofs.WordReads.{IsPlacedName, IsPlacedNumber, placed_reads, mark_reads, ident_reads, numeral_reads}
+use Rattle.lang_syntax.proofs.WordReads.{IsPlacedName, IsPlacedNumber, placed_reads, mark_reads, ident_reads, spelled_reads, numeral_reads}
 use Rattle.lang_syntax.proofs.Openings.{Opens, At, mark_opens, each_opens}
 
 -- ---- rules
@@ -75,6 +75,9 @@ placed_then kind IsTree read F r = pair_reads (λ at. IsMarkAt kind at) (placed_
 
 pub ident_then : {A : Type 0} (IsTree : Rule A) (read : List Word → Read A) (F : List Word → Type 0) → Reads IsTree read F → Reads (Both IsPlacedName IsTree) (ident_at ⊗ read) F
 ident_then IsTree read F r = pair_reads IsPlacedName ident_at Anything IsTree read F ident_reads r (λ y taken rest is after. tt)
+
+pub spelled_then : {A : Type 0} (letters : List ℕ) (IsTree : Rule A) (read : List Word → Read A) (F : List Word → Type 0) → Reads IsTree read F → Reads (Both (λ (at : ℕ). IsIdent letters at) IsTree) (spelled_at letters ⊗ read) F
+spelled_then letters IsTree read F r = pair_reads (λ at. IsIdent letters at) (spelled_at letters) Anything IsTree read F (spelled_reads letters) r (λ y taken rest is after. tt)
 
 pub numeral_then : {A : Type 0} (IsTree : Rule A) (read : List Word → Read A) (F : List Word → Type 0) → Reads IsTree read F → Reads (Both IsPlacedNumber IsTree) (numeral_at ⊗ read) F
 numeral_then IsTree read F r = pair_reads IsPlacedNumber numeral_at Anything IsTree read F numeral_reads r (λ y taken rest is after. tt)

@@ -8,18 +8,20 @@ use Rattle.lang_tokens.specs.declared.token.TokenKind.{TokenKind}
 use Rattle.lang_tokens.specs.declared.token.TokenKind.TheVariants as kinds
 use Rattle.lang_base.specs.declared.kind.Kind.{Kind}
 use Rattle.lang_base.specs.declared.kind.Kind.TheVariants as inputs
+use Rattle.lang_tree.specs.declared.tree.LimitSign.{LimitSign}
+use Rattle.lang_tree.specs.declared.tree.LimitSign.TheVariants as signs
 use Rattle.lang_tree.specs.declared.tree.Op.{Op}
 use Rattle.lang_tree.specs.declared.tree.Op.TheVariants as ops
 use Rattle.lang_tree.specs.declared.tree.Expr.{Expr}
 use Rattle.lang_tree.specs.declared.tree.Expr.TheVariants as exprs
 use Rattle.lang_tree.specs.declared.tree.Arg.{Arg}
 use Rattle.lang_tree.specs.declared.tree.Arg.TheVariants as args
-use Rattle.lang_cursor.specs.declared.word.PlacedName.{PlacedName}
+use Rattle.lang_tree.specs.declared.tree.PlacedName.{PlacedName}
 use Rattle.lang_cursor.specs.declared.word.PlacedNumber.{PlacedNumber}
 use Rattle.lang_tokens.specs.Words.{Word, ident, numeral, mark}
-use Rattle.lang_syntax.specs.Grammar.{Rule, IsIdent, IsNumeral, IsMarkAt, IsMark, truth_word, op_sign, sum_sign, kind_word, IsAtom}
+use Rattle.lang_syntax.specs.Grammar.{Rule, IsIdent, IsNumeral, IsMarkAt, IsMark, truth_word, op_sign, limit_sign, sum_sign, kind_word, IsAtom}
 use Rattle.lang_cursor.specs.Arguments.{plain}
-use Rattle.lang_cursor.specs.Reading.{code, is_kind, placed_at, mark_at, ident_at, spelled_at, numeral_at, listed_at, truth_of, op_of, minus_of, kind_of, begins, is_listed, begins_listed, begins_ident, begins_spelled, atom_at, plain_argument_at}
+use Rattle.lang_cursor.specs.Reading.{code, is_kind, placed_at, mark_at, ident_at, spelled_at, numeral_at, listed_at, truth_of, op_of, limit_sign_of, minus_of, kind_of, begins, is_listed, begins_listed, begins_ident, begins_spelled, atom_at, plain_argument_at}
 use Rattle.lang_syntax.specs.inner.Reading.{begins_statement, begins_item, begins_declaration}
 use Rattle.lang_syntax.proofs.Readers.{Reads, Anything, Heads, One, one_reads}
 
@@ -264,6 +266,27 @@ op_one = listed_one op_of op_sign is_op op_is ops.Equal
 pub op_reads : Reads (λ op. IsMark (op_sign op)) (listed_at op_of) Anything
 op_reads = one_reads (λ op. IsMark (op_sign op)) (listed_at op_of) op_one
 
+pub is_limit_sign : (k : TokenKind) → IfListed limit_sign (limit_sign_of k) k
+is_limit_sign kinds.Equal = refl
+is_limit_sign kinds.Less = refl
+is_limit_sign kinds.AtMost = refl
+is_limit_sign kinds.More = refl
+is_limit_sign kinds.AtLeast = refl
+is_limit_sign k = tt
+
+pub limit_sign_is : (sign : LimitSign) → limit_sign_of (limit_sign sign) ≡ Some sign
+limit_sign_is signs.Equal = refl
+limit_sign_is signs.Less = refl
+limit_sign_is signs.AtMost = refl
+limit_sign_is signs.More = refl
+limit_sign_is signs.AtLeast = refl
+
+pub limit_sign_one : One (λ sign. IsMark (limit_sign sign)) (listed_at limit_sign_of)
+limit_sign_one = listed_one limit_sign_of limit_sign is_limit_sign limit_sign_is signs.Equal
+
+pub limit_sign_reads : Reads (λ sign. IsMark (limit_sign sign)) (listed_at limit_sign_of) Anything
+limit_sign_reads = one_reads (λ sign. IsMark (limit_sign sign)) (listed_at limit_sign_of) limit_sign_one
+
 pub is_minus : (k : TokenKind) → IfListed sum_sign (minus_of k) k
 is_minus kinds.Plus = refl
 is_minus kinds.Minus = refl
@@ -422,7 +445,7 @@ item_heads = heads_of begins_item alone
     alone (numeral value at) us vs = refl
 
 pub declaration_heads : Heads begins_declaration
-unfolding begins_declaration begins
+unfolding begins_declaration begins begins_spelled
 declaration_heads = heads_of begins_declaration alone
   where
     alone : (w : Word) (us vs : List Word) → begins_declaration (w ∷ us) ≡ begins_declaration (w ∷ vs)

@@ -6,6 +6,9 @@ use Rattle.lang_tokens.specs.declared.token.TokenKind.{TokenKind}
 use Rattle.lang_tokens.specs.declared.token.TokenKind.TheVariants as kinds
 use Rattle.lang_tokens.specs.declared.token.Token.{Token}
 use Rattle.lang_tree.specs.declared.tree.Lit.{Lit}
+use Rattle.lang_tree.specs.declared.tree.LimitSign.{LimitSign}
+use Rattle.lang_tree.specs.declared.tree.LimitSign.TheVariants as signs
+use Rattle.lang_tree.specs.declared.tree.LimitTree.{LimitTree}
 use Rattle.lang_tree.specs.declared.tree.Decl.{Decl}
 use Rattle.lang_tree.specs.declared.tree.Decl.TheVariants as decls
 use Rattle.lang_base.specs.declared.kind.Kind.{Kind}
@@ -57,6 +60,10 @@ Maybe IsTree (Some tree) ws = IsTree tree ws
 abbrev pub IsIdent : List ℕ → ℕ → List Word → Type 0
 IsIdent name at ws = ws ≡ ident name at ∷ []
 
+-- an ID of these letters, wherever it stands
+abbrev pub IsSpelled : List ℕ → List Word → Type 0
+IsSpelled letters ws = (at : ℕ) × IsIdent letters at ws
+
 abbrev pub IsNumeral : ℕ → ℕ → List Word → Type 0
 IsNumeral value at ws = ws ≡ numeral value at ∷ []
 
@@ -83,6 +90,13 @@ op_sign ops.Less = kinds.Less
 op_sign ops.AtMost = kinds.AtMost
 op_sign ops.More = kinds.More
 op_sign ops.AtLeast = kinds.AtLeast
+
+abbrev pub limit_sign : LimitSign → TokenKind
+limit_sign signs.Equal = kinds.Equal
+limit_sign signs.Less = kinds.Less
+limit_sign signs.AtMost = kinds.AtMost
+limit_sign signs.More = kinds.More
+limit_sign signs.AtLeast = kinds.AtLeast
 
 abbrev pub sum_sign : Bool → TokenKind
 sum_sign true = kinds.Minus
@@ -209,16 +223,37 @@ after_minus false Rest = Rest
 abbrev pub IsLiteral : Rule Lit
 IsLiteral literal = after_minus literal.minus (IsNumeral literal.digits literal.at)
 
+-- limit = "where" "(" ID ("==" | "<" | "<=" | ">" | ">=") literal ")", where "where" is the ID of
+-- these letters
+abbrev pub WHERE : List ℕ
+WHERE = codes "where"
+
+abbrev pub IsLimit : Rule LimitTree
+IsLimit limit =
+    IsSpelled WHERE ⌢ IsMark kinds.OpenParen ⌢ IsIdent limit.subject.name limit.subject.at
+    ⌢ IsMark (limit_sign limit.sign) ⌢ IsLiteral limit.bound ⌢ IsMark kinds.CloseParen
+
 -- declaration = "const" ID "=" literal ";"
+--     | "param" ID "=" literal limit ";", where "param" is the ID of these letters
 --     | "int" ID "=" literal ";"
+--     | "int" ID "=" ID ";"
 --     | "bool" ID "=" ("true" | "false") ";"
+abbrev pub PARAM : List ℕ
+PARAM = codes "param"
+
 abbrev pub IsDeclaration : Rule Decl
 IsDeclaration (decls.Const at name value) =
     IsMark kinds.KeyConst ⌢ IsIdent name at ⌢ IsMark kinds.Assign ⌢ IsLiteral value
     ⌢ IsMark kinds.Semicolon
+IsDeclaration (decls.Param at name value limit) =
+    IsSpelled PARAM ⌢ IsIdent name at ⌢ IsMark kinds.Assign ⌢ IsLiteral value ⌢ IsLimit limit
+    ⌢ IsMark kinds.Semicolon
 IsDeclaration (decls.Int at name value) =
     IsMark kinds.KeyInt ⌢ IsIdent name at ⌢ IsMark kinds.Assign ⌢ IsLiteral value
     ⌢ IsMark kinds.Semicolon
+IsDeclaration (decls.Copied at name source) =
+    IsMark kinds.KeyInt ⌢ IsIdent name at ⌢ IsMark kinds.Assign
+    ⌢ IsIdent source.name source.at ⌢ IsMark kinds.Semicolon
 IsDeclaration (decls.Flag at name value) =
     IsMark kinds.KeyBool ⌢ IsIdent name at ⌢ IsMark kinds.Assign ⌢ IsMark (truth_word value)
     ⌢ IsMark kinds.Semicolon
@@ -241,8 +276,10 @@ AreInputs (first ∷ rest) ws =
 --     | "local" "bool" ID "=" ("true" | "false") ";"
 abbrev pub IsLocal : Rule Decl
 IsLocal (decls.Const at name value) ws = ⊥
+IsLocal (decls.Param at name value limit) ws = ⊥
 IsLocal (decls.Int at name value) ws =
     (IsMark kinds.KeyLocal ⌢ IsDeclaration (decls.Int at name value)) ws
+IsLocal (decls.Copied at name source) ws = ⊥
 IsLocal (decls.Flag at name value) ws =
     (IsMark kinds.KeyLocal ⌢ IsDeclaration (decls.Flag at name value)) ws
 

@@ -15,9 +15,9 @@ use super::item_parser::item_block;
 use base_list::Seq;
 use lang_base::SourceError;
 use lang_base::limits::LEVELS;
-use lang_cursor::{Cursor, PlacedName, Stop, fault_of, many};
+use lang_cursor::{Cursor, Stop, fault_of, many};
 use lang_tokens::{Token, TokenKind};
-use lang_tree::{ClientTree, ClientsTree};
+use lang_tree::{ClientTree, ClientsTree, PlacedName};
 use std::alloc::Global;
 
 /// client = "client" ID "{" item* "}"

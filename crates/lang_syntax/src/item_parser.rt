@@ -11,9 +11,9 @@ ghost use Rattle.lang_cursor.specs.Takes.{Takes};
 
 use base_list::Seq;
 use lang_base::Name;
-use lang_cursor::{Cursor, PlacedName, PlacedNumber, Stop, many, with_first};
+use lang_cursor::{Cursor, PlacedNumber, Stop, many, with_first};
 use lang_tokens::TokenKind;
-use lang_tree::{Arg, Item, Lit};
+use lang_tree::{Arg, Item, Lit, PlacedName};
 use std::alloc::Global;
 
 // ---- calls

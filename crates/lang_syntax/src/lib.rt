@@ -9,6 +9,7 @@
 #![tactic(auto)]
 
 mod clients_parser;
+mod declaration_parser;
 mod expression_parser;
 mod item_parser;
 mod laws;
@@ -22,8 +23,8 @@ pub use lang_tokens::{
     one_spelling, tokens,
 };
 pub use lang_tree::{
-    Addend, Arg, BlockTree, ClientTree, ClientsTree, Decl, Expr, Factor, InputTree, Item, Lit,
-    MethodTree, MonitorTree, Op, StmtTree,
+    Addend, Arg, BlockTree, ClientTree, ClientsTree, Decl, Expr, Factor, InputTree, Item,
+    LimitSign, LimitTree, Lit, MethodTree, MonitorTree, Op, PlacedName, StmtTree,
 };
 pub use laws::{derives_one_tree, names_are_identifiers, printed_tree_derives};
 pub use monitor_parser::parse_monitor;

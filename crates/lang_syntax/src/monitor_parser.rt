@@ -7,127 +7,23 @@ ghost use Rattle.lang_tokens.specs.Words.{words};
 ghost use Rattle.lang_syntax.specs.Grammar.{IsMonitorFile, Derives};
 ghost use Rattle.lang_syntax.specs.Fault.{AnswersEach, IsFault};
 ghost use Rattle.lang_cursor.specs.Reading.{AreTokens, Gives};
-ghost use Rattle.lang_syntax.specs.inner.Reading.{asserted_at, begins_declaration, blocks_at};
-ghost use Rattle.lang_syntax.specs.inner.Reading.{constant_at, declaration_at, declarations_at};
-ghost use Rattle.lang_syntax.specs.inner.Reading.{flag_at, guarded_at, head_at, input_at};
-ghost use Rattle.lang_syntax.specs.inner.Reading.{inputs_at, int_at, later_blocks_at};
-ghost use Rattle.lang_syntax.specs.inner.Reading.{later_input_at, later_inputs_at, literal_at};
-ghost use Rattle.lang_syntax.specs.inner.Reading.{local_at, locals_at, method_at};
-ghost use Rattle.lang_syntax.specs.inner.Reading.{method_blocks_at, methods_at, monitor_at};
-ghost use Rattle.lang_syntax.specs.inner.Reading.{monitor_file, some_inputs_at, variable_at};
+ghost use Rattle.lang_syntax.specs.inner.Reading.{asserted_at, blocks_at, guarded_at, head_at};
+ghost use Rattle.lang_syntax.specs.inner.Reading.{input_at, inputs_at, later_blocks_at};
+ghost use Rattle.lang_syntax.specs.inner.Reading.{later_input_at, later_inputs_at, local_at};
+ghost use Rattle.lang_syntax.specs.inner.Reading.{locals_at, method_at, method_blocks_at};
+ghost use Rattle.lang_syntax.specs.inner.Reading.{methods_at, monitor_at, monitor_file};
+ghost use Rattle.lang_syntax.specs.inner.Reading.{some_inputs_at};
 ghost use Rattle.lang_cursor.specs.Takes.{Takes};
 
+use super::declaration_parser::{declarations, variable};
 use super::statement_parser::{block, condition};
 use base_list::Seq;
 use lang_base::SourceError;
 use lang_base::limits::LEVELS;
-use lang_cursor::{Cursor, PlacedName, PlacedNumber, Stop, fault_of, many, with_first};
+use lang_cursor::{Cursor, Stop, fault_of, many, with_first};
 use lang_tokens::{Token, TokenKind};
-use lang_tree::{BlockTree, Decl, InputTree, Lit, MethodTree, MonitorTree};
+use lang_tree::{BlockTree, Decl, InputTree, MethodTree, MonitorTree, PlacedName};
 use std::alloc::Global;
-
-// ---- declarations
-
-/// literal = ["-"] NUM
-#[tactic(auto, unfolding(crate::specs::inner::Reading::literal_at))]
-fn literal(input: &mut Cursor<'_>) -> Result<Lit, Stop>
-    ensures { Takes result input.new (literal_at input.old) }
-{
-    if input.begins(TokenKind::Minus) {
-        input.mark(TokenKind::Minus)?;
-        let PlacedNumber { at, value } = input.numeral()?;
-        return Ok(Lit {
-            at,
-            minus: true,
-            digits: value,
-        });
-    }
-    let PlacedNumber { at, value } = input.numeral()?;
-    Ok(Lit {
-        at,
-        minus: false,
-        digits: value,
-    })
-}
-
-/// "const" ID "=" literal ";"
-#[tactic(auto, unfolding(crate::specs::inner::Reading::constant_at))]
-fn constant(alloc: Global, input: &mut Cursor<'_>) -> Result<Decl, Stop>
-    ensures { Takes result input.new (constant_at input.old) }
-{
-    input.mark(TokenKind::KeyConst)?;
-    let PlacedName { at, name } = input.ident(alloc)?;
-    input.mark(TokenKind::Assign)?;
-    let value = literal(input)?;
-    input.mark(TokenKind::Semicolon)?;
-    Ok(Decl::Const { at, name, value })
-}
-
-/// "int" ID "=" literal ";"
-#[tactic(auto, unfolding(crate::specs::inner::Reading::int_at))]
-fn int(alloc: Global, input: &mut Cursor<'_>) -> Result<Decl, Stop>
-    ensures { Takes result input.new (int_at input.old) }
-{
-    input.mark(TokenKind::KeyInt)?;
-    let PlacedName { at, name } = input.ident(alloc)?;
-    input.mark(TokenKind::Assign)?;
-    let value = literal(input)?;
-    input.mark(TokenKind::Semicolon)?;
-    Ok(Decl::Int { at, name, value })
-}
-
-/// "bool" ID "=" ("true" | "false") ";"
-#[tactic(auto, unfolding(crate::specs::inner::Reading::flag_at))]
-fn flag(alloc: Global, input: &mut Cursor<'_>) -> Result<Decl, Stop>
-    ensures { Takes result input.new (flag_at input.old) }
-{
-    input.mark(TokenKind::KeyBool)?;
-    let PlacedName { at, name } = input.ident(alloc)?;
-    input.mark(TokenKind::Assign)?;
-    let value = input.truth()?;
-    input.mark(TokenKind::Semicolon)?;
-    Ok(Decl::Flag { at, name, value })
-}
-
-#[tactic(auto, unfolding(crate::specs::inner::Reading::begins_declaration))]
-fn begins_declaration(input: &Cursor<'_>) -> bool
-    ensures { result ≡ begins_declaration input.now }
-{
-    input.begins(TokenKind::KeyConst)
-        || input.begins(TokenKind::KeyInt)
-        || input.begins(TokenKind::KeyBool)
-}
-
-/// variable = int | flag
-#[tactic(auto, unfolding(crate::specs::inner::Reading::variable_at))]
-fn variable(alloc: Global, input: &mut Cursor<'_>) -> Result<Decl, Stop>
-    ensures { Takes result input.new (variable_at input.old) }
-{
-    if input.begins(TokenKind::KeyInt) {
-        return int(alloc, input);
-    }
-    flag(alloc, input)
-}
-
-/// declaration = constant | variable
-#[tactic(auto, unfolding(crate::specs::inner::Reading::declaration_at))]
-fn declaration(alloc: Global, input: &mut Cursor<'_>) -> Result<Decl, Stop>
-    ensures { Takes result input.new (declaration_at input.old) }
-{
-    if input.begins(TokenKind::KeyConst) {
-        return constant(alloc, input);
-    }
-    variable(alloc, input)
-}
-
-/// declaration*
-fn declarations(alloc: Global, input: &mut Cursor<'_>) -> Result<Seq<Decl>, Stop>
-    ensures { Takes result input.new (declarations_at input.old) }
-{
-    many(alloc, input, begins_declaration, |input| {
-        declaration(alloc, input)
-    })
-}
 
 // ---- methods
 

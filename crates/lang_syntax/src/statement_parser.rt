@@ -9,9 +9,9 @@ ghost use Rattle.lang_cursor.specs.Takes.{Takes};
 
 use super::expression_parser::expression;
 use base_list::Seq;
-use lang_cursor::{Cursor, PlacedName, Stop, many};
+use lang_cursor::{Cursor, Stop, many};
 use lang_tokens::TokenKind;
-use lang_tree::{Expr, StmtTree};
+use lang_tree::{Expr, PlacedName, StmtTree};
 use std::alloc::Global;
 
 #[tactic(auto, unfolding(crate::specs::inner::Reading::begins_statement))]

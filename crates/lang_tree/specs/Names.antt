@@ -62,8 +62,21 @@ statement_names = fold-StmtTree Names statement_names_step
 
 abbrev pub declared_name : Decl → List ℕ
 declared_name (decls.Const at name value) = name
+declared_name (decls.Param at name value limit) = name
 declared_name (decls.Int at name value) = name
+declared_name (decls.Copied at name source) = name
 declared_name (decls.Flag at name value) = name
+
+-- the names that a declaration uses
+abbrev pub used_names : Decl → Names
+used_names (decls.Const at name value) = []
+used_names (decls.Param at name value limit) = limit.subject.name ∷ []
+used_names (decls.Int at name value) = []
+used_names (decls.Copied at name source) = source.name ∷ []
+used_names (decls.Flag at name value) = []
+
+abbrev pub declaration_names : Decl → Names
+declaration_names declared = declared_name declared ∷ used_names declared
 
 abbrev pub block_names : BlockTree → Names
 block_names block = expression_names block.guard ++ flat_map statement_names block.body
@@ -74,7 +87,9 @@ method_names method =
     ++ (map declared_name method.locals ++ flat_map block_names method.blocks))
 
 abbrev pub names_in : MonitorTree → Names
-names_in tree = tree.name ∷ (map declared_name tree.decls ++ flat_map method_names tree.methods)
+names_in tree =
+    tree.name
+    ∷ (flat_map declaration_names tree.decls ++ flat_map method_names tree.methods)
 
 -- ---- client files
 

@@ -1,6 +1,8 @@
 -- Trees without offsets: each `at` is 0.
 use Rattle.std.specs.Prelude.{map}
 use Rattle.lang_tree.specs.declared.tree.Lit.{Lit}
+use Rattle.lang_tree.specs.declared.tree.PlacedName.{PlacedName}
+use Rattle.lang_tree.specs.declared.tree.LimitTree.{LimitTree}
 use Rattle.lang_tree.specs.declared.tree.Decl.{Decl}
 use Rattle.lang_tree.specs.declared.tree.Decl.TheVariants as decls
 use Rattle.lang_tree.specs.declared.tree.InputTree.{InputTree}
@@ -62,9 +64,22 @@ unplaced_statement = fold-StmtTree StmtTree statement_step
 abbrev pub unplaced_literal : Lit → Lit
 unplaced_literal literal = record { at = 0; minus = literal.minus; digits = literal.digits }
 
+abbrev pub unplaced_name : PlacedName → PlacedName
+unplaced_name placed = record { at = 0; name = placed.name }
+
+abbrev pub unplaced_limit : LimitTree → LimitTree
+unplaced_limit limit = record {
+  subject = unplaced_name limit.subject;
+  sign = limit.sign;
+  bound = unplaced_literal limit.bound;
+}
+
 abbrev pub unplaced_declaration : Decl → Decl
 unplaced_declaration (decls.Const at name value) = decls.Const 0 name (unplaced_literal value)
+unplaced_declaration (decls.Param at name value limit) =
+    decls.Param 0 name (unplaced_literal value) (unplaced_limit limit)
 unplaced_declaration (decls.Int at name value) = decls.Int 0 name (unplaced_literal value)
+unplaced_declaration (decls.Copied at name source) = decls.Copied 0 name (unplaced_name source)
 unplaced_declaration (decls.Flag at name value) = decls.Flag 0 name value
 
 abbrev pub unplaced_input : InputTree → InputTree

@@ -11,7 +11,9 @@ impl Named for Decl {
     fn name(&self) -> &Name {
         match self {
             Decl::Const { name, .. } => name,
+            Decl::Param { name, .. } => name,
             Decl::Int { name, .. } => name,
+            Decl::Copied { name, .. } => name,
             Decl::Flag { name, .. } => name,
         }
     }

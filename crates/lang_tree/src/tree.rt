@@ -19,12 +19,62 @@ pub struct MonitorTree {
     pub methods: Seq<MethodTree>,
 }
 
-/// A declaration. `at` is the offset of its name.
+/// A declaration. `at` is the offset of its name. A parameter is a number that is chosen when a
+/// monitor is opened, one that meets its limit, and `value` where nothing is said; an int may start
+/// as a constant or a parameter of a name (`Copied`).
 #[derive(Debug, Drop)]
 pub enum Decl {
-    Const { at: u32, name: Name, value: Lit },
-    Int { at: u32, name: Name, value: Lit },
-    Flag { at: u32, name: Name, value: bool },
+    Const {
+        at: u32,
+        name: Name,
+        value: Lit,
+    },
+    Param {
+        at: u32,
+        name: Name,
+        value: Lit,
+        limit: LimitTree,
+    },
+    Int {
+        at: u32,
+        name: Name,
+        value: Lit,
+    },
+    Copied {
+        at: u32,
+        name: Name,
+        source: PlacedName,
+    },
+    Flag {
+        at: u32,
+        name: Name,
+        value: bool,
+    },
+}
+
+/// A name that is used. `at` is its offset.
+#[derive(Debug, Drop)]
+pub struct PlacedName {
+    pub at: u32,
+    pub name: Name,
+}
+
+/// The condition of a parameter: how its number compares with a bound.
+#[derive(Debug, Drop)]
+pub struct LimitTree {
+    pub subject: PlacedName,
+    pub sign: LimitSign,
+    pub bound: Lit,
+}
+
+/// How a parameter may compare with its bound: as by any comparison but `!=`.
+#[derive(Clone, Copy, Debug, PartialEq, Eq)]
+pub enum LimitSign {
+    Equal,
+    Less,
+    AtMost,
+    More,
+    AtLeast,
 }
 
 /// A parameter of a method. `at` is the offset of its name.

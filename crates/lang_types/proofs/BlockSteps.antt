@@ -1,7 +1,7 @@
 -- Methods, blocks and conditions, one more at a time.
 use Rattle.std.proofs.Common.{◌≡◌, Bool, true, false, ℕ, zero, suc, ◌+◌, ◌*◌, ◌<◌, ◌≤◌, List, [], ◌∷◌, ◌++◌, length, get_or, take, refl, sym, ap, subst, ◌∙◌, arith, inl, inr, append_assoc}
 use Rattle.std.specs.Prelude.{map, IfOk, Result, Ok, Err, Some, ◌||◌}
-use Rattle.std.specs.List.{All, flat_map, list_any}
+use Rattle.std.specs.List.{All, list_any}
 use Rattle.std.proofs.lemmas.List.{append-nil, length-append, map-append, take_more}
 use Rattle.std.proofs.lemmas.List.Elements.{All-cons, All-head, All-nil, All-tail, All-weaker}
 use Rattle.std.proofs.lemmas.List.Concat.{flat_map-append}
@@ -21,7 +21,7 @@ use Rattle.lang_monitor.specs.declared.monitor.Block.{Block}
 use Rattle.lang_monitor.specs.declared.monitor.Condition.{Condition}
 use Rattle.lang_monitor.specs.declared.monitor.Field.{Field}
 use Rattle.lang_monitor.specs.declared.monitor.Method.{Method}
-use Rattle.lang_types.specs.Typed.{AreBlocksOf, AreConditions, IsBlockOf, PlacedBlock, blocks_from, condition_of, field_of, method_of, methods_from, placed_in, starts_of}
+use Rattle.lang_types.specs.Typed.{AreBlocksOf, AreConditions, IsBlockOf, PlacedBlock, blocks_from, condition_of, field_of, locals_of, method_of, methods_from, placed_in, starts_of}
 use Rattle.lang_types.specs.inner.Making.{AreAdded, HasNumber, HasSmallParts, IsBlockScope, IsMethodScope}
 use Rattle.lang_types.proofs.ConditionClasses.{no_more}
 use Rattle.lang_types.proofs.FineTrees.{IsFineMethod, append_none, fine_method, none_each}
@@ -55,15 +55,15 @@ all_taken P (x ∷ xs) (suc i) each = All-cons P x (take i xs) (All-head P x xs 
 
 -- ---- the values of declarations at the start
 
-pub starts_more : (declared : List Decl) (i : ℕ) (decl : Decl) (starts next : List Value) → i < length declared → decl ≡ get_or declared i decl → starts ≡ starts_of (take i declared) → next ≡ starts ++ map (λ (field : Field). field.start) (field_of decl)
+pub starts_more : (declared : List Decl) (i : ℕ) (decl : Decl) (starts next : List Value) → i < length declared → decl ≡ get_or declared i decl → starts ≡ starts_of (take i declared) → next ≡ starts ++ map (λ (field : Field). field.start) (field_of [] decl)
     → next ≡ starts_of (take (i + 1) declared)
 starts_more declared i decl starts next lt is so_far more =
-    let before = flat_map field_of (take i declared) in
+    let before = locals_of (take i declared) in
     let start = λ (field : Field). field.start in
-    more ∙ ap (λ list. list ++ map start (field_of decl)) so_far
+    more ∙ ap (λ list. list ++ map start (field_of [] decl)) so_far
     ∙ sym (ap starts_of (one_taken declared i decl lt is)
-    ∙ ap (map start) (flat_map-append field_of (take i declared) (decl ∷ []) ∙ ap (λ list. before ++ list) (append-nil (field_of decl)))
-    ∙ map-append start before (field_of decl))
+    ∙ ap (map start) (flat_map-append (field_of []) (take i declared) (decl ∷ []) ∙ ap (λ list. before ++ list) (append-nil (field_of [] decl)))
+    ∙ map-append start before (field_of [] decl))
 
 -- ---- methods
 

@@ -17,8 +17,8 @@ use Rattle.lang_base.specs.declared.source_fault.SourceFault.{SourceFault}
 use Rattle.lang_forms.specs.declared.scope.Entry.{Entry}
 use Rattle.lang_forms.specs.Scope.{field_count, scope_of}
 use Rattle.lang_forms.specs.Sense.{sense}
-use Rattle.lang_rules.specs.Rules.{block_faults, constant_place, declared_at, declared_names, early_faults, early_in_blocks, early_returns, expected, faults_in_blocks, faults_in_each, faults_in_literals, faults_in_methods, faults_of, field_place, finding, method_faults, method_names, misplaced, over, own_names, places_in, repeated, return_faults}
-use Rattle.lang_types.specs.Typed.{PlacedBlock, blocks_from, field_of, placed_in}
+use Rattle.lang_rules.specs.Rules.{block_faults, constant_place, declared_at, declared_names, early_faults, early_in_blocks, early_returns, expected, faults_in_blocks, faults_in_each, faults_in_literals, faults_in_methods, faults_in_starts, faults_of, field_place, finding, method_faults, method_names, misplaced, over, own_names, places_in, repeated, return_faults}
+use Rattle.lang_types.specs.Typed.{PlacedBlock, blocks_from, field_of, fields_of, placed_in}
 
 -- ---- faults
 
@@ -45,23 +45,32 @@ few limit what [] none = omega arith
 few zero what (place ∷ places) none = absurd (cc)
 few (suc limit) what (place ∷ places) none = let less = few limit what places none in omega arith
 
-as_many_fields : (declared : List Decl) → length (flat_map field_place declared) ≡ length (flat_map field_of declared)
-as_many_fields [] = refl
-as_many_fields (decls.Const at name value ∷ more) = as_many_fields more
-as_many_fields (decls.Int at name value ∷ more) = let rest = as_many_fields more in omega arith
-as_many_fields (decls.Flag at name value ∷ more) = let rest = as_many_fields more in omega arith
+as_many_fields : (known declared : List Decl) → length (flat_map field_place declared) ≡ length (flat_map (field_of known) declared)
+as_many_fields known [] = refl
+as_many_fields known (decls.Const at name value ∷ more) = as_many_fields known more
+as_many_fields known (decls.Param at name value limit ∷ more) = let rest = as_many_fields known more in omega arith
+as_many_fields known (decls.Int at name value ∷ more) = let rest = as_many_fields known more in omega arith
+as_many_fields known (decls.Copied at name source ∷ more) = let rest = as_many_fields known more in omega arith
+as_many_fields known (decls.Flag at name value ∷ more) = let rest = as_many_fields known more in omega arith
 
-pub fields_counted : (declared : List Decl) → field_count declared ≡ length (flat_map field_of declared)
-fields_counted [] = refl
-fields_counted (decls.Const at name value ∷ more) = fields_counted more
-fields_counted (decls.Int at name value ∷ more) = let rest = fields_counted more in omega arith
-fields_counted (decls.Flag at name value ∷ more) = let rest = fields_counted more in omega arith
+pub fields_counted : (known declared : List Decl) → field_count declared ≡ length (flat_map (field_of known) declared)
+fields_counted known [] = refl
+fields_counted known (decls.Const at name value ∷ more) = fields_counted known more
+fields_counted known (decls.Param at name value limit ∷ more) = let rest = fields_counted known more in omega arith
+fields_counted known (decls.Int at name value ∷ more) = let rest = fields_counted known more in omega arith
+fields_counted known (decls.Copied at name source ∷ more) = let rest = fields_counted known more in omega arith
+fields_counted known (decls.Flag at name value ∷ more) = let rest = fields_counted known more in omega arith
 
-pub constants_and_fields : (declared : List Decl) → length declared ≡ length (flat_map constant_place declared) + length (flat_map field_of declared)
-constants_and_fields [] = refl
-constants_and_fields (decls.Const at name value ∷ more) = let rest = constants_and_fields more in omega arith
-constants_and_fields (decls.Int at name value ∷ more) = let rest = constants_and_fields more in omega arith
-constants_and_fields (decls.Flag at name value ∷ more) = let rest = constants_and_fields more in omega arith
+each_counted : (known declared : List Decl) → length declared ≡ length (flat_map constant_place declared) + length (flat_map (field_of known) declared)
+each_counted known [] = refl
+each_counted known (decls.Const at name value ∷ more) = let rest = each_counted known more in omega arith
+each_counted known (decls.Param at name value limit ∷ more) = let rest = each_counted known more in omega arith
+each_counted known (decls.Int at name value ∷ more) = let rest = each_counted known more in omega arith
+each_counted known (decls.Copied at name source ∷ more) = let rest = each_counted known more in omega arith
+each_counted known (decls.Flag at name value ∷ more) = let rest = each_counted known more in omega arith
+
+pub constants_and_fields : (declared : List Decl) → length declared ≡ length (flat_map constant_place declared) + length (fields_of declared)
+constants_and_fields declared = each_counted declared declared
 
 -- ---- methods
 
@@ -176,7 +185,8 @@ pub record IsFine (tree : MonitorTree) : Type 0 where
   pub names : repeated [] (declared_names tree.decls ++ method_names tree.methods) ≡ []
   pub literals : faults_in_literals tree.decls ≡ []
   pub constants : length (flat_map constant_place tree.decls) ≤ 64
-  pub fields : length (flat_map field_of tree.decls) ≤ 16
+  pub starts : faults_in_starts tree.decls ≡ []
+  pub fields : length (fields_of tree.decls) ≤ 16
   pub methods : length tree.methods ≤ 16
   pub each : faults_in_methods tree.decls tree.methods ≡ []
 
@@ -188,17 +198,19 @@ fine_tree tree none =
     let fields = over 16 Fields (flat_map field_place tree.decls) in
     let methods = over 16 Methods (map (λ method. method.at) tree.methods) in
     let each = faults_in_methods tree.decls tree.methods in
-    let one = append_none (literals ++ names ++ constants ++ fields ++ methods) each none in
-    let two = append_none (literals ++ names ++ constants ++ fields) methods one.0 in
-    let three = append_none (literals ++ names ++ constants) fields two.0 in
-    let four = append_none (literals ++ names) constants three.0 in
+    let front = literals ++ faults_in_starts tree.decls in
+    let one = append_none (front ++ names ++ constants ++ fields ++ methods) each none in
+    let two = append_none (front ++ names ++ constants ++ fields) methods one.0 in
+    let three = append_none (front ++ names ++ constants) fields two.0 in
+    let four = append_none (front ++ names) constants three.0 in
     let field_count = few 16 Fields (flat_map field_place tree.decls) three.1 in
     let method_count = few 16 Methods (map (λ method. method.at) tree.methods) two.1 in
     record {
-      names = (append_none literals names four.0).1;
-      literals = (append_none literals names four.0).0;
+      names = (append_none front names four.0).1;
+      literals = (append_none literals (faults_in_starts tree.decls) (append_none front names four.0).0).0;
       constants = few 64 Constants (flat_map constant_place tree.decls) four.1;
-      fields = rw as_many_fields at field_count;
+      starts = (append_none literals (faults_in_starts tree.decls) (append_none front names four.0).0).1;
+      fields = rw (as_many_fields tree.decls tree.decls) at field_count;
       methods = rw length-map at method_count;
       each = one.1;
     }

@@ -8,6 +8,9 @@ pub mod HeldPlaces
 pub mod StatementsFit
 pub mod ConditionClasses
 pub mod MonitorNames
+pub mod LimitLaws
+pub mod OpenedStarts
+pub mod CopiedStarts
 pub mod MonitorMade
 pub mod StatementSteps
 pub mod BlockSteps

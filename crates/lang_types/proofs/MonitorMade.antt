@@ -22,11 +22,12 @@ use Rattle.lang_monitor.specs.declared.monitor.Block.{Block}
 use Rattle.lang_monitor.specs.declared.monitor.Condition.{Condition}
 use Rattle.lang_monitor.specs.Conditions.{IsDescribed}
 use Rattle.lang_monitor.specs.MonitorParts.{IsBlockOf, IsMethod, IsMonitor, IsOfKind, IsOwned, MonitorParts, Places, fits_block, kind_of, kinds_in, kinds_of, locals_in, method_places}
-use Rattle.lang_types.specs.Typed.{AreBlocksOf, AreConditions, IsPlaced, IsTyped, PlacedBlock, blocks_from, field_of, method_of, methods_from, starts_of}
+use Rattle.lang_types.specs.Typed.{AreBlocksOf, AreConditions, IsPlaced, IsTyped, PlacedBlock, blocks_from, field_of, fields_of, locals_of, method_of, methods_from, starts_of}
 use Rattle.lang_types.specs.inner.Making.{HasBlocks, HasSmallParts}
 use Rattle.lang_types.proofs.ConditionClasses.{WaitsAs, all_described, all_different, in_order, no_more, typed_conditions, waits_at}
 use Rattle.lang_types.proofs.FineTrees.{IsFine, IsFineMethod, IsFinePlaced, all_blocks_fine, append_none, constants_and_fields, fields_counted, fine_method, fine_tree, none_each, silent_before}
 use Rattle.lang_types.proofs.MonitorNames.{identified, typed_distinct}
+use Rattle.lang_types.proofs.OpenedStarts.{have_origins, may_open}
 use Rattle.lang_types.proofs.PlacedBlocks.{as_many_blocks, few_from, follow_in_turn, has_block, has_tree, method_at, row_at, some_weaker}
 use Rattle.lang_types.proofs.ScopePlaces.{scope_places, scope_fits}
 use Rattle.lang_types.proofs.StatementsFit.{IsFit, block_fits, silent_body}
@@ -36,11 +37,13 @@ use Rattle.lang_types.proofs.StatementsFit.{IsFit, block_fits, silent_body}
 abbrev Starts : Field → Type 0
 Starts field = IsOfKind field.kind field.start
 
-starts : (declared : List Decl) → All Starts (flat_map field_of declared)
-starts [] = All-nil Starts
-starts (decls.Const at name value ∷ more) = starts more
-starts (decls.Int at name value ∷ more) = All-cons Starts _ (flat_map field_of more) tt (starts more)
-starts (decls.Flag at name value ∷ more) = All-cons Starts _ (flat_map field_of more) tt (starts more)
+starts : (known declared : List Decl) → All Starts (flat_map (field_of known) declared)
+starts known [] = All-nil Starts
+starts known (decls.Const at name value ∷ more) = starts known more
+starts known (decls.Param at name value limit ∷ more) = All-cons Starts _ (flat_map (field_of known) more) tt (starts known more)
+starts known (decls.Int at name value ∷ more) = All-cons Starts _ (flat_map (field_of known) more) tt (starts known more)
+starts known (decls.Copied at name source ∷ more) = All-cons Starts _ (flat_map (field_of known) more) tt (starts known more)
+starts known (decls.Flag at name value ∷ more) = All-cons Starts _ (flat_map (field_of known) more) tt (starts known more)
 
 -- ---- methods
 
@@ -48,16 +51,20 @@ as_many_methods : (number : ℕ) (methods : List MethodTree) → length (methods
 as_many_methods number [] = refl
 as_many_methods number (method ∷ methods) = let rest = as_many_methods (number + length method.blocks) methods in omega arith
 
-start_kinds : (declared : List Decl) → map kind_of (starts_of declared) ≡ kinds_of (flat_map field_of declared)
+start_kinds : (declared : List Decl) → map kind_of (starts_of declared) ≡ kinds_of (locals_of declared)
 start_kinds [] = refl
 start_kinds (decls.Const at name value ∷ more) = start_kinds more
+start_kinds (decls.Param at name value limit ∷ more) = ap (λ (list : List Kind). kinds.Int ∷ list) (start_kinds more)
 start_kinds (decls.Int at name value ∷ more) = ap (λ (list : List Kind). kinds.Int ∷ list) (start_kinds more)
+start_kinds (decls.Copied at name source ∷ more) = ap (λ (list : List Kind). kinds.Int ∷ list) (start_kinds more)
 start_kinds (decls.Flag at name value ∷ more) = ap (λ (list : List Kind). kinds.Bool ∷ list) (start_kinds more)
 
 few_starts : (declared : List Decl) → length (starts_of declared) ≤ length declared
 few_starts [] = omega arith
 few_starts (decls.Const at name value ∷ more) = let rest = few_starts more in omega arith
+few_starts (decls.Param at name value limit ∷ more) = let rest = few_starts more in omega arith
 few_starts (decls.Int at name value ∷ more) = let rest = few_starts more in omega arith
+few_starts (decls.Copied at name source ∷ more) = let rest = few_starts more in omega arith
 few_starts (decls.Flag at name value ∷ more) = let rest = few_starts more in omega arith
 
 some_within : {X : Type 0} (xs : List X) (index : ℕ) → index < length xs → (x : X) × (slice_get xs index ≡ Some x)
@@ -79,7 +86,7 @@ places_are tree monitor number first method typed is = λ i. record {
   locals = (ap (λ found. map kind_of (locals_in found)) is ∙ start_kinds method.locals) i;
 }
 
-scope_fit : (declared : List Decl) (method : MethodTree) → length (flat_map field_of declared) ≤ 16 → IsFineMethod declared method → IsFit (scope_places declared method) (scope_of declared method)
+scope_fit : (declared : List Decl) (method : MethodTree) → length (fields_of declared) ≤ 16 → IsFineMethod declared method → IsFit (scope_places declared method) (scope_of declared method)
 scope_fit declared method less fine = record { fits = scope_fits declared method (rw length-map less) (rw length-map fine.inputs); small = scopes_are_small declared method }
 
 row_is_block : (tree : MonitorTree) (monitor : MonitorParts) (number first place : ℕ) (method : MethodTree) (row : BlockTree) (block : Block) → IsSoundTyped tree monitor
@@ -177,7 +184,9 @@ typed_is_monitor tree monitor none named have typed =
       name = rw typed.name are.name;
       names = rw (typed.fields, typed.methods) are.names;
       distinct = rw (typed.fields, typed.methods) (typed_distinct tree.decls tree.methods fine.names);
-      starts = rw typed.fields (starts tree.decls);
+      starts = rw typed.fields (starts tree.decls tree.decls);
+      origins = rw typed.fields (have_origins tree.decls fine.literals fine.starts);
+      opens = rw typed.fields (may_open tree.decls fine.literals fine.starts);
       methods = λ number method is. method_is tree monitor number method sound is;
       in_turn = rw typed.methods (follow_in_turn tree.methods 0 0 monitor.blocks (omega arith));
       owned = λ number block is. block_owned tree monitor number block typed is;
@@ -192,14 +201,14 @@ pub made_is_typed : (tree : MonitorTree) (declared : List Decl) (methods : List 
     → declared ≡ tree.decls
     → methods ≡ tree.methods
     → name ≡ tree.name
-    → fields ≡ flat_map field_of declared
+    → fields ≡ fields_of declared
     → made ≡ methods_from 0 methods
     → AreBlocksOf declared (blocks_from 0 methods) blocks
     → AreConditions [] (blocks_from 0 methods) blocks conditions
     → IsTyped tree (record { name = name; fields = fields; methods = made; blocks = blocks; conditions = conditions })
 made_is_typed tree declared methods name fields made blocks conditions declared_is methods_are named fields_are made_are blocks_are conditions_are = record {
   name = named;
-  fields = fields_are ∙ ap (flat_map field_of) declared_is;
+  fields = fields_are ∙ ap fields_of declared_is;
   methods = made_are ∙ ap (methods_from 0) methods_are;
   blocks = subst (λ (list : List MethodTree). AreBlocksOf tree.decls (blocks_from 0 list) blocks) methods_are (subst (λ (list : List Decl). AreBlocksOf list (blocks_from 0 methods) blocks) declared_is blocks_are);
   conditions = subst (λ (list : List MethodTree). AreConditions [] (blocks_from 0 list) blocks conditions) methods_are conditions_are;
@@ -212,7 +221,7 @@ pub made_is_monitor : (tree : MonitorTree) (declared : List Decl) (methods : Lis
     → declared ≡ tree.decls
     → methods ≡ tree.methods
     → name ≡ tree.name
-    → fields ≡ flat_map field_of declared
+    → fields ≡ fields_of declared
     → made ≡ methods_from 0 methods
     → AreBlocksOf declared (blocks_from 0 methods) blocks
     → AreConditions [] (blocks_from 0 methods) blocks conditions
@@ -227,7 +236,7 @@ pub few_declared : (tree : MonitorTree) → faults_of tree ≡ [] → length tre
 few_declared tree none = let fine = fine_tree tree none in let constants = fine.constants in let fields = fine.fields in let count = constants_and_fields tree.decls in omega arith
 
 pub few_fields : (tree : MonitorTree) → faults_of tree ≡ [] → field_count tree.decls ≤ 16
-few_fields tree none = rw fields_counted (fine_tree tree none).fields
+few_fields tree none = rw (fields_counted tree.decls tree.decls) (fine_tree tree none).fields
 
 small_each : (declared : List Decl) (methods : List MethodTree) → faults_in_methods declared methods ≡ [] → All HasSmallParts methods
 small_each declared [] none = All-nil HasSmallParts

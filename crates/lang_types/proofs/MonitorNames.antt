@@ -13,7 +13,7 @@ use Rattle.lang_tree.specs.declared.tree.Decl.TheVariants as decls
 use Rattle.lang_tree.specs.declared.tree.BlockTree.{BlockTree}
 use Rattle.lang_tree.specs.declared.tree.MethodTree.{MethodTree}
 use Rattle.lang_tree.specs.declared.tree.MonitorTree.{MonitorTree}
-use Rattle.lang_tree.specs.Names.{Names, block_names, declared_name, expression_names, method_names, names_in, statement_names}
+use Rattle.lang_tree.specs.Names.{Names, block_names, declaration_names, declared_name, expression_names, method_names, names_in, statement_names, used_names}
 use Rattle.lang_rules.specs.Rules.{PlacedName, method_name, repeated, declared_name as placed_name}
 use Rattle.lang_types.specs.Typed.{blocks_from, field_of, methods_from, placed_in}
 use Rattle.lang_types.proofs.FineTrees.{append_none, no_fault}
@@ -80,24 +80,29 @@ apart earlier (first ∷ names) none =
 
 -- ---- names of fields and methods
 
-abbrev field_names : List Decl → Names
-field_names declared = map (λ field. field.name) (flat_map field_of declared)
+-- the names of fields whose starts may be copied from what is known
+abbrev field_names : List Decl → List Decl → Names
+field_names known declared = map (λ field. field.name) (flat_map (field_of known) declared)
 
 abbrev names_of_methods : List MethodTree → Names
 names_of_methods methods = map (λ method. method.name) methods
 
 -- what holds of the names of declarations, and of more, holds of those of fields, and of the others
-fields_keep : (P : List ℕ → Type 0) (declared : List Decl) (more : Names) → All P (map declared_name declared ++ more) → All P (field_names declared ++ more)
-fields_keep P [] more each = each
-fields_keep P (decls.Const at name value ∷ declared) more each = fields_keep P declared more (All-tail P name (map declared_name declared ++ more) each)
-fields_keep P (decls.Int at name value ∷ declared) more each = All-cons P name (field_names declared ++ more) (All-head P name (map declared_name declared ++ more) each) (fields_keep P declared more (All-tail P name (map declared_name declared ++ more) each))
-fields_keep P (decls.Flag at name value ∷ declared) more each = All-cons P name (field_names declared ++ more) (All-head P name (map declared_name declared ++ more) each) (fields_keep P declared more (All-tail P name (map declared_name declared ++ more) each))
+fields_keep : (known : List Decl) (P : List ℕ → Type 0) (declared : List Decl) (more : Names) → All P (map declared_name declared ++ more) → All P (field_names known declared ++ more)
+fields_keep known P [] more each = each
+fields_keep known P (decls.Const at name value ∷ declared) more each = fields_keep known P declared more (All-tail P name (map declared_name declared ++ more) each)
+fields_keep known P (decls.Param at name value limit ∷ declared) more each = All-cons P name (field_names known declared ++ more) (All-head P name (map declared_name declared ++ more) each) (fields_keep known P declared more (All-tail P name (map declared_name declared ++ more) each))
+fields_keep known P (decls.Int at name value ∷ declared) more each = All-cons P name (field_names known declared ++ more) (All-head P name (map declared_name declared ++ more) each) (fields_keep known P declared more (All-tail P name (map declared_name declared ++ more) each))
+fields_keep known P (decls.Copied at name source ∷ declared) more each = All-cons P name (field_names known declared ++ more) (All-head P name (map declared_name declared ++ more) each) (fields_keep known P declared more (All-tail P name (map declared_name declared ++ more) each))
+fields_keep known P (decls.Flag at name value ∷ declared) more each = All-cons P name (field_names known declared ++ more) (All-head P name (map declared_name declared ++ more) each) (fields_keep known P declared more (All-tail P name (map declared_name declared ++ more) each))
 
-fields_apart : (R : List ℕ → List ℕ → Type 0) (declared : List Decl) (more : Names) → AllPairs R (map declared_name declared ++ more) → AllPairs R (field_names declared ++ more)
-fields_apart R [] more pairs = pairs
-fields_apart R (decls.Const at name value ∷ declared) more pairs = fields_apart R declared more (AllPairs-tail R name (map declared_name declared ++ more) pairs)
-fields_apart R (decls.Int at name value ∷ declared) more pairs = AllPairs-cons R name (field_names declared ++ more) (fields_keep (R name) declared more (AllPairs-head R name (map declared_name declared ++ more) pairs)) (fields_apart R declared more (AllPairs-tail R name (map declared_name declared ++ more) pairs))
-fields_apart R (decls.Flag at name value ∷ declared) more pairs = AllPairs-cons R name (field_names declared ++ more) (fields_keep (R name) declared more (AllPairs-head R name (map declared_name declared ++ more) pairs)) (fields_apart R declared more (AllPairs-tail R name (map declared_name declared ++ more) pairs))
+fields_apart : (known : List Decl) (R : List ℕ → List ℕ → Type 0) (declared : List Decl) (more : Names) → AllPairs R (map declared_name declared ++ more) → AllPairs R (field_names known declared ++ more)
+fields_apart known R [] more pairs = pairs
+fields_apart known R (decls.Const at name value ∷ declared) more pairs = fields_apart known R declared more (AllPairs-tail R name (map declared_name declared ++ more) pairs)
+fields_apart known R (decls.Param at name value limit ∷ declared) more pairs = AllPairs-cons R name (field_names known declared ++ more) (fields_keep known (R name) declared more (AllPairs-head R name (map declared_name declared ++ more) pairs)) (fields_apart known R declared more (AllPairs-tail R name (map declared_name declared ++ more) pairs))
+fields_apart known R (decls.Int at name value ∷ declared) more pairs = AllPairs-cons R name (field_names known declared ++ more) (fields_keep known (R name) declared more (AllPairs-head R name (map declared_name declared ++ more) pairs)) (fields_apart known R declared more (AllPairs-tail R name (map declared_name declared ++ more) pairs))
+fields_apart known R (decls.Copied at name source ∷ declared) more pairs = AllPairs-cons R name (field_names known declared ++ more) (fields_keep known (R name) declared more (AllPairs-head R name (map declared_name declared ++ more) pairs)) (fields_apart known R declared more (AllPairs-tail R name (map declared_name declared ++ more) pairs))
+fields_apart known R (decls.Flag at name value ∷ declared) more pairs = AllPairs-cons R name (field_names known declared ++ more) (fields_keep known (R name) declared more (AllPairs-head R name (map declared_name declared ++ more) pairs)) (fields_apart known R declared more (AllPairs-tail R name (map declared_name declared ++ more) pairs))
 
 methods_named : (number : ℕ) (methods : List MethodTree) → map (λ method. method.name) (methods_from number methods) ≡ names_of_methods methods
 methods_named number [] = refl
@@ -106,7 +111,9 @@ methods_named number (method ∷ methods) = ap (λ (names : Names). method.name 
 declared_bare : (declared : List Decl) → bare_names (map placed_name declared) ≡ map declared_name declared
 declared_bare [] = refl
 declared_bare (decls.Const at name value ∷ declared) = ap (λ (names : Names). name ∷ names) (declared_bare declared)
+declared_bare (decls.Param at name value limit ∷ declared) = ap (λ (names : Names). name ∷ names) (declared_bare declared)
 declared_bare (decls.Int at name value ∷ declared) = ap (λ (names : Names). name ∷ names) (declared_bare declared)
+declared_bare (decls.Copied at name source ∷ declared) = ap (λ (names : Names). name ∷ names) (declared_bare declared)
 declared_bare (decls.Flag at name value ∷ declared) = ap (λ (names : Names). name ∷ names) (declared_bare declared)
 
 methods_bare : (methods : List MethodTree) → bare_names (map method_name methods) ≡ names_of_methods methods
@@ -118,9 +125,9 @@ placed_bare declared methods = map-append (λ (placed : PlacedName). placed.name
 
 -- no two fields and methods have the same name
 pub typed_distinct : (declared : List Decl) (methods : List MethodTree) → repeated [] (map placed_name declared ++ map method_name methods) ≡ []
-    → AllPairs Differ (field_names declared ++ map (λ method. method.name) (methods_from 0 methods))
+    → AllPairs Differ (field_names declared declared ++ map (λ method. method.name) (methods_from 0 methods))
 typed_distinct declared methods none =
-    rw methods_named (fields_apart Differ declared (names_of_methods methods) (subst (AllPairs Differ) (placed_bare declared methods) (apart [] (map placed_name declared ++ map method_name methods) none)))
+    rw methods_named (fields_apart declared Differ declared (names_of_methods methods) (subst (AllPairs Differ) (placed_bare declared methods) (apart [] (map placed_name declared ++ map method_name methods) none)))
 
 -- ---- names of a tree
 
@@ -153,22 +160,30 @@ guards_identified number (method ∷ methods) each =
     (blocks_identified number method method.blocks own)
     (guards_identified (number + 1) methods (back IsIdentifier (method_names method) rest each))
 
+declared_identified : (declared : List Decl) → All IsIdentifier (flat_map declaration_names declared) → All IsIdentifier (map declared_name declared)
+declared_identified [] each = All-nil IsIdentifier
+declared_identified (decl ∷ more) each =
+    let used = used_names decl in
+    let rest = flat_map declaration_names more in
+    All-cons IsIdentifier (declared_name decl) (map declared_name more) (All-head IsIdentifier (declared_name decl) (used ++ rest) each)
+    (declared_identified more (back IsIdentifier used rest (All-tail IsIdentifier (declared_name decl) (used ++ rest) each)))
+
 -- what a tree's names give a monitor
 pub record AreIdentified (tree : MonitorTree) : Type 0 where
   pub name : IsIdentifier tree.name
-  pub names : All IsIdentifier (field_names tree.decls ++ map (λ method. method.name) (methods_from 0 tree.methods))
+  pub names : All IsIdentifier (field_names tree.decls tree.decls ++ map (λ method. method.name) (methods_from 0 tree.methods))
   pub guards : All ShowsNames (blocks_from 0 tree.methods)
 
 pub identified : (tree : MonitorTree) → All IsIdentifier (names_in tree) → AreIdentified tree
 identified tree each =
-    let declared = map declared_name tree.decls in
+    let declared = flat_map declaration_names tree.decls in
     let methods = flat_map method_names tree.methods in
     let later = All-tail IsIdentifier tree.name (declared ++ methods) each in
-    let front_names = front IsIdentifier declared methods later in
+    let front_names = declared_identified tree.decls (front IsIdentifier declared methods later) in
     let back_names = back IsIdentifier declared methods later in
-    let whole = All-append IsIdentifier declared (names_of_methods tree.methods) front_names (methods_identified tree.methods back_names) in
+    let whole = All-append IsIdentifier (map declared_name tree.decls) (names_of_methods tree.methods) front_names (methods_identified tree.methods back_names) in
     record {
       name = All-head IsIdentifier tree.name (declared ++ methods) each;
-      names = rw methods_named (fields_keep IsIdentifier tree.decls (names_of_methods tree.methods) whole);
+      names = rw methods_named (fields_keep tree.decls IsIdentifier tree.decls (names_of_methods tree.methods) whole);
       guards = guards_identified 0 tree.methods back_names;
     }

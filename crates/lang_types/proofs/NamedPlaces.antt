@@ -19,7 +19,7 @@ use Rattle.lang_forms.specs.declared.scope.Meaning.TheVariants as meanings
 use Rattle.lang_forms.specs.declared.scope.Entry.{Entry}
 use Rattle.lang_forms.specs.Scope.{declared_from, entry_at, entry_named, field_count, input_meaning, inputs_from, scope_of}
 use Rattle.lang_monitor.specs.MonitorParts.{kinds_of}
-use Rattle.lang_types.specs.Typed.{field_of}
+use Rattle.lang_types.specs.Typed.{field_of, fields_of, locals_of}
 use Rattle.lang_types.proofs.ScopePlaces.{after_rest, first_of_rest, within_rest}
 
 -- ---- what a name finds
@@ -174,7 +174,13 @@ inputs_apart place (input ∷ more) later above apart =
 declared_above : (place : ℕ) (declared : List Decl) (later : List Entry) → AreAbove (place + field_count declared) later → AreAbove place (declared_from place declared ++ later)
 declared_above place [] later above = each_lower place (place + 0) later (omega arith) above
 declared_above place (decls.Const at name value ∷ more) later above = (tt, declared_above place more later above)
+declared_above place (decls.Param at name value limit ∷ more) later above =
+    let rest = declared_above (place + 1) more later (each_lower (place + 1 + field_count more) (place + (1 + field_count more)) later (omega arith) above) in
+    (omega arith, each_lower place (place + 1) (declared_from (place + 1) more ++ later) (omega arith) rest)
 declared_above place (decls.Int at name value ∷ more) later above =
+    let rest = declared_above (place + 1) more later (each_lower (place + 1 + field_count more) (place + (1 + field_count more)) later (omega arith) above) in
+    (omega arith, each_lower place (place + 1) (declared_from (place + 1) more ++ later) (omega arith) rest)
+declared_above place (decls.Copied at name source ∷ more) later above =
     let rest = declared_above (place + 1) more later (each_lower (place + 1 + field_count more) (place + (1 + field_count more)) later (omega arith) above) in
     (omega arith, each_lower place (place + 1) (declared_from (place + 1) more ++ later) (omega arith) rest)
 declared_above place (decls.Flag at name value ∷ more) later above =
@@ -184,18 +190,26 @@ declared_above place (decls.Flag at name value ∷ more) later above =
 declared_apart : (place : ℕ) (declared : List Decl) (later : List Entry) → AreAbove (place + field_count declared) later → AreApart later → AreApart (declared_from place declared ++ later)
 declared_apart place [] later above apart = apart
 declared_apart place (decls.Const at name value ∷ more) later above apart = (tt, declared_apart place more later above apart)
+declared_apart place (decls.Param at name value limit ∷ more) later above apart =
+    let next = each_lower (place + 1 + field_count more) (place + (1 + field_count more)) later (omega arith) above in
+    (each_misses place (declared_from (place + 1) more ++ later) (declared_above (place + 1) more later next), declared_apart (place + 1) more later next apart)
 declared_apart place (decls.Int at name value ∷ more) later above apart =
+    let next = each_lower (place + 1 + field_count more) (place + (1 + field_count more)) later (omega arith) above in
+    (each_misses place (declared_from (place + 1) more ++ later) (declared_above (place + 1) more later next), declared_apart (place + 1) more later next apart)
+declared_apart place (decls.Copied at name source ∷ more) later above apart =
     let next = each_lower (place + 1 + field_count more) (place + (1 + field_count more)) later (omega arith) above in
     (each_misses place (declared_from (place + 1) more ++ later) (declared_above (place + 1) more later next), declared_apart (place + 1) more later next apart)
 declared_apart place (decls.Flag at name value ∷ more) later above apart =
     let next = each_lower (place + 1 + field_count more) (place + (1 + field_count more)) later (omega arith) above in
     (each_misses place (declared_from (place + 1) more ++ later) (declared_above (place + 1) more later next), declared_apart (place + 1) more later next apart)
 
-counted : (declared : List Decl) → field_count declared ≡ length (kinds_of (flat_map field_of declared))
-counted [] = refl
-counted (decls.Const at name value ∷ more) = counted more
-counted (decls.Int at name value ∷ more) = let rest = counted more in omega arith
-counted (decls.Flag at name value ∷ more) = let rest = counted more in omega arith
+counted : (known declared : List Decl) → field_count declared ≡ length (kinds_of (flat_map (field_of known) declared))
+counted known [] = refl
+counted known (decls.Const at name value ∷ more) = counted known more
+counted known (decls.Param at name value limit ∷ more) = let rest = counted known more in omega arith
+counted known (decls.Int at name value ∷ more) = let rest = counted known more in omega arith
+counted known (decls.Copied at name source ∷ more) = let rest = counted known more in omega arith
+counted known (decls.Flag at name value ∷ more) = let rest = counted known more in omega arith
 
 locals_above : (locals : List Decl) → AreAbove 22 (declared_from 22 locals)
 locals_above locals = subst (AreAbove 22) (append-nil (declared_from 22 locals)) (declared_above 22 locals [] tt)
@@ -203,9 +217,9 @@ locals_above locals = subst (AreAbove 22) (append-nil (declared_from 22 locals))
 locals_apart : (locals : List Decl) → AreApart (declared_from 22 locals)
 locals_apart locals = subst AreApart (append-nil (declared_from 22 locals)) (declared_apart 22 locals [] tt tt)
 
-pub scope_apart : (declared : List Decl) (method : MethodTree) → length (kinds_of (flat_map field_of declared)) ≤ 16 → length method.inputs ≤ 6 → AreApart (scope_of declared method)
+pub scope_apart : (declared : List Decl) (method : MethodTree) → length (kinds_of (fields_of declared)) ≤ 16 → length method.inputs ≤ 6 → AreApart (scope_of declared method)
 scope_apart declared method few few_inputs =
-    let count = counted declared in
+    let count = counted declared declared in
     let locals = declared_from 22 method.locals in
     let later = inputs_from 16 method.inputs ++ locals in
     let high = each_lower (16 + length method.inputs) 22 locals (omega arith) (locals_above method.locals) in
@@ -272,27 +286,35 @@ fields_stored variables few = record {
 locals_stored : (variables : Variables) → Store variables 22 variables.locals
 locals_stored variables = record { at = λ place k kind rest at is. inr (record { own = k; at = at; is = first_of_rest variables.locals k kind rest is }) }
 
-declared_targets : (variables : Variables) (first : ℕ) (list : List Kind) → Store variables first list → (place k : ℕ) (declared : List Decl) (later : List Entry) → place ≡ first + k
-    → drop k list ≡ kinds_of (flat_map field_of declared) → AreTargets variables later → AreTargets variables (declared_from place declared ++ later)
-declared_targets variables first list store place k [] later at rest targets = targets
-declared_targets variables first list store place k (decls.Const from name value ∷ more) later at rest targets =
-    (λ is. absurd (true≢false (sym is)), declared_targets variables first list store place k more later at rest targets)
-declared_targets variables first list store place k (decls.Int from name value ∷ more) later at rest targets =
-    let here = store.at place k kinds.Int (kinds_of (flat_map field_of more)) at rest in
-    let next = after_rest list k kinds.Int (kinds_of (flat_map field_of more)) rest in
-    (λ is. here, declared_targets variables first list store (place + 1) (k + 1) more later (omega arith) next targets)
-declared_targets variables first list store place k (decls.Flag from name value ∷ more) later at rest targets =
-    let here = store.at place k kinds.Bool (kinds_of (flat_map field_of more)) at rest in
-    let next = after_rest list k kinds.Bool (kinds_of (flat_map field_of more)) rest in
-    (λ is. here, declared_targets variables first list store (place + 1) (k + 1) more later (omega arith) next targets)
+declared_targets : (known : List Decl) (variables : Variables) (first : ℕ) (list : List Kind) → Store variables first list → (place k : ℕ) (declared : List Decl) (later : List Entry) → place ≡ first + k
+    → drop k list ≡ kinds_of (flat_map (field_of known) declared) → AreTargets variables later → AreTargets variables (declared_from place declared ++ later)
+declared_targets known variables first list store place k [] later at rest targets = targets
+declared_targets known variables first list store place k (decls.Const from name value ∷ more) later at rest targets =
+    (λ is. absurd (true≢false (sym is)), declared_targets known variables first list store place k more later at rest targets)
+declared_targets known variables first list store place k (decls.Param from name value limit ∷ more) later at rest targets =
+    let here = store.at place k kinds.Int (kinds_of (flat_map (field_of known) more)) at rest in
+    let next = after_rest list k kinds.Int (kinds_of (flat_map (field_of known) more)) rest in
+    (λ is. here, declared_targets known variables first list store (place + 1) (k + 1) more later (omega arith) next targets)
+declared_targets known variables first list store place k (decls.Int from name value ∷ more) later at rest targets =
+    let here = store.at place k kinds.Int (kinds_of (flat_map (field_of known) more)) at rest in
+    let next = after_rest list k kinds.Int (kinds_of (flat_map (field_of known) more)) rest in
+    (λ is. here, declared_targets known variables first list store (place + 1) (k + 1) more later (omega arith) next targets)
+declared_targets known variables first list store place k (decls.Copied from name source ∷ more) later at rest targets =
+    let here = store.at place k kinds.Int (kinds_of (flat_map (field_of known) more)) at rest in
+    let next = after_rest list k kinds.Int (kinds_of (flat_map (field_of known) more)) rest in
+    (λ is. here, declared_targets known variables first list store (place + 1) (k + 1) more later (omega arith) next targets)
+declared_targets known variables first list store place k (decls.Flag from name value ∷ more) later at rest targets =
+    let here = store.at place k kinds.Bool (kinds_of (flat_map (field_of known) more)) at rest in
+    let next = after_rest list k kinds.Bool (kinds_of (flat_map (field_of known) more)) rest in
+    (λ is. here, declared_targets known variables first list store (place + 1) (k + 1) more later (omega arith) next targets)
 
 abbrev pub variables_of : List Decl → MethodTree → Variables
-variables_of declared method = record { fields = kinds_of (flat_map field_of declared); locals = kinds_of (flat_map field_of method.locals) }
+variables_of declared method = record { fields = kinds_of (fields_of declared); locals = kinds_of (locals_of method.locals) }
 
-pub scope_targets : (declared : List Decl) (method : MethodTree) → length (kinds_of (flat_map field_of declared)) ≤ 16 → AreTargets (variables_of declared method) (scope_of declared method)
+pub scope_targets : (declared : List Decl) (method : MethodTree) → length (kinds_of (fields_of declared)) ≤ 16 → AreTargets (variables_of declared method) (scope_of declared method)
 scope_targets declared method few =
     let variables = variables_of declared method in
     let locals = declared_from 22 method.locals in
-    let own = subst (AreTargets variables) (append-nil locals) (declared_targets variables 22 variables.locals (locals_stored variables) 22 0 method.locals [] refl refl tt) in
-    declared_targets variables 0 variables.fields (fields_stored variables few) 0 0 declared (inputs_from 16 method.inputs ++ locals) refl refl
+    let own = subst (AreTargets variables) (append-nil locals) (declared_targets [] variables 22 variables.locals (locals_stored variables) 22 0 method.locals [] refl refl tt) in
+    declared_targets declared variables 0 variables.fields (fields_stored variables few) 0 0 declared (inputs_from 16 method.inputs ++ locals) refl refl
     (inputs_targets variables 16 method.inputs locals own)

@@ -23,13 +23,13 @@ use Rattle.lang_base.specs.declared.value.Value.{Value}
 use Rattle.lang_base.specs.declared.value.Value.TheVariants as values
 use Rattle.lang_forms.specs.declared.scope.Entry.{Entry}
 use Rattle.lang_forms.specs.declared.scope.Meaning.TheVariants as meanings
-use Rattle.lang_forms.specs.Scope.{constant_entry, constant_value, declared_from, input_entry, input_meaning, inputs_from, scope_of, variable_entry}
+use Rattle.lang_forms.specs.Scope.{constant_entry, constant_value, declared_from, input_entry, input_meaning, inputs_from, parameter_entry, scope_of, variable_entry}
 use Rattle.lang_forms.specs.Plain.{Plain, number, truth, entry_value, meaning_value}
 use Rattle.lang_rules.specs.Rules.{PlacedName, declared_name, declared_names, faults_in_literals, faults_of, input_name, input_names, literal_faults, method_names, repeated}
 use Rattle.lang_monitor.specs.declared.monitor.Block.{Block}
 use Rattle.lang_monitor.specs.MonitorParts.{AreOfKinds, IsOfKind, MonitorParts, kinds_of}
 use Rattle.lang_monitor.specs.Bodies.{Inputs, Memory, after, memory_of, number_of_value, reading, result_value, truth_of_value}
-use Rattle.lang_types.specs.Typed.{IsPlaced, IsTyped, PlacedBlock, blocks_from, field_of, literal_value, statement_of}
+use Rattle.lang_types.specs.Typed.{IsPlaced, IsTyped, PlacedBlock, blocks_from, field_of, fields_of, literal_value, locals_of, statement_of}
 use Rattle.lang_types.specs.PlainRuns.{Environment, MonitorRunsAsWritten, NamedValue, PlainState, RunsAsWritten, block_run, declared_values, environment_of, input_values, kinds_kept, kinds_taken, method_environment, named_values, plain_of}
 use Rattle.lang_types.proofs.FineTrees.{IsFine, IsFinePlaced, append_none, fine_tree, no_fault, tree_blocks_fine}
 use Rattle.lang_types.proofs.KeptMeanings.{fine_at}
@@ -112,28 +112,40 @@ small_test digits small = grind (arith, nat_tests)
 constant_is : (literal : Lit) → nat_lt GREATEST_NUMBER literal.digits ≡ false → constant_value literal ≡ literal_value literal
 constant_is literal small = rw (small_test literal.digits small) refl
 
-declared_alike : (arguments : List Value) (memory : Memory) (first : ℕ) (list : List Value) → Stand arguments memory first list
+declared_alike : (known : List Decl) (arguments : List Value) (memory : Memory) (first : ℕ) (list : List Value) → Stand arguments memory first list
     → (place k : ℕ) (declared : List Decl) (rest : List Value) (later : List Entry) (named : List NamedValue)
-    → faults_in_literals declared ≡ [] → place ≡ first + k → drop k list ≡ rest → AreOfKinds (kinds_of (flat_map field_of declared)) rest
+    → faults_in_literals declared ≡ [] → place ≡ first + k → drop k list ≡ rest → AreOfKinds (kinds_of (flat_map (field_of known) declared)) rest
     → Alike (reading arguments memory) later named → Alike (reading arguments memory) (declared_from place declared ++ later) (declared_values declared rest ++ named)
-declared_alike arguments memory first list stand place k [] [] later named none at is fit alike name = alike name
-declared_alike arguments memory first list stand place k [] (value ∷ rest) later named none at is fit alike name = absurd fit
-declared_alike arguments memory first list stand place k (decls.Const from own literal ∷ more) rest later named none at is fit alike name =
+declared_alike known arguments memory first list stand place k [] [] later named none at is fit alike name = alike name
+declared_alike known arguments memory first list stand place k [] (value ∷ rest) later named none at is fit alike name = absurd fit
+declared_alike known arguments memory first list stand place k (decls.Const from own literal ∷ more) rest later named none at is fit alike name =
     let both = append_none (literal_faults (decls.Const from own literal)) (faults_in_literals more) none in
     one_alike (reading arguments memory) (bytes_eq own name) (constant_entry own literal) (found (declared_from place more ++ later) name) (number (literal_value literal)) (environment_of (declared_values more rest ++ named) name)
     (ap (λ x. number x) (constant_is literal (no_fault _ _ both.0)))
-    (declared_alike arguments memory first list stand place k more rest later named both.1 at is fit alike name)
-declared_alike arguments memory first list stand place k (decls.Int from own literal ∷ more) [] later named none at is fit alike name = absurd fit
-declared_alike arguments memory first list stand place k (decls.Int from own literal ∷ more) (value ∷ rest) later named none at is fit alike name =
+    (declared_alike known arguments memory first list stand place k more rest later named both.1 at is fit alike name)
+declared_alike known arguments memory first list stand place k (decls.Param from own literal limit ∷ more) [] later named none at is fit alike name = absurd fit
+declared_alike known arguments memory first list stand place k (decls.Param from own literal limit ∷ more) (value ∷ rest) later named none at is fit alike name =
+    let both = append_none (literal_faults (decls.Param from own literal limit)) (faults_in_literals more) none in
+    one_alike (reading arguments memory) (bytes_eq own name) _ (found (declared_from (place + 1) more ++ later) name) (plain_of value) (environment_of (declared_values more rest ++ named) name)
+    (ap (λ x. number (number_of_value x)) (stand.at place k value rest at is) ∙ int_is value fit.0)
+    (declared_alike known arguments memory first list stand (place + 1) (k + 1) more rest later named both.1 (omega arith) (after_rest list k value rest is) fit.1 alike name)
+declared_alike known arguments memory first list stand place k (decls.Int from own literal ∷ more) [] later named none at is fit alike name = absurd fit
+declared_alike known arguments memory first list stand place k (decls.Int from own literal ∷ more) (value ∷ rest) later named none at is fit alike name =
     let both = append_none (literal_faults (decls.Int from own literal)) (faults_in_literals more) none in
     one_alike (reading arguments memory) (bytes_eq own name) _ (found (declared_from (place + 1) more ++ later) name) (plain_of value) (environment_of (declared_values more rest ++ named) name)
     (ap (λ x. number (number_of_value x)) (stand.at place k value rest at is) ∙ int_is value fit.0)
-    (declared_alike arguments memory first list stand (place + 1) (k + 1) more rest later named both.1 (omega arith) (after_rest list k value rest is) fit.1 alike name)
-declared_alike arguments memory first list stand place k (decls.Flag from own flag ∷ more) [] later named none at is fit alike name = absurd fit
-declared_alike arguments memory first list stand place k (decls.Flag from own flag ∷ more) (value ∷ rest) later named none at is fit alike name =
+    (declared_alike known arguments memory first list stand (place + 1) (k + 1) more rest later named both.1 (omega arith) (after_rest list k value rest is) fit.1 alike name)
+declared_alike known arguments memory first list stand place k (decls.Copied from own source ∷ more) [] later named none at is fit alike name = absurd fit
+declared_alike known arguments memory first list stand place k (decls.Copied from own source ∷ more) (value ∷ rest) later named none at is fit alike name =
+    let both = append_none (literal_faults (decls.Copied from own source)) (faults_in_literals more) none in
+    one_alike (reading arguments memory) (bytes_eq own name) _ (found (declared_from (place + 1) more ++ later) name) (plain_of value) (environment_of (declared_values more rest ++ named) name)
+    (ap (λ x. number (number_of_value x)) (stand.at place k value rest at is) ∙ int_is value fit.0)
+    (declared_alike known arguments memory first list stand (place + 1) (k + 1) more rest later named both.1 (omega arith) (after_rest list k value rest is) fit.1 alike name)
+declared_alike known arguments memory first list stand place k (decls.Flag from own flag ∷ more) [] later named none at is fit alike name = absurd fit
+declared_alike known arguments memory first list stand place k (decls.Flag from own flag ∷ more) (value ∷ rest) later named none at is fit alike name =
     one_alike (reading arguments memory) (bytes_eq own name) _ (found (declared_from (place + 1) more ++ later) name) (plain_of value) (environment_of (declared_values more rest ++ named) name)
     (ap (λ x. truth (truth_of_value x)) (stand.at place k value rest at is) ∙ bool_is value fit.0)
-    (declared_alike arguments memory first list stand (place + 1) (k + 1) more rest later named none (omega arith) (after_rest list k value rest is) fit.1 alike name)
+    (declared_alike known arguments memory first list stand (place + 1) (k + 1) more rest later named none (omega arith) (after_rest list k value rest is) fit.1 alike name)
 
 -- ---- fields and locals by their names
 
@@ -157,8 +169,16 @@ skip_declared earlier scope place (decls.Const at own literal ∷ more) later fi
     let one = declared_name (decls.Const at own literal) in
     skip_more earlier one (declared_names more) scope later
     (skip_declared (earlier ++ one ∷ []) scope place more later (skip_one earlier one scope (constant_entry own literal) (declared_from place more ++ later) refl finds))
+skip_declared earlier scope place (decls.Param at own literal limit ∷ more) later finds =
+    let one = declared_name (decls.Param at own literal limit) in
+    skip_more earlier one (declared_names more) scope later
+    (skip_declared (earlier ++ one ∷ []) scope (place + 1) more later (skip_one earlier one scope (parameter_entry own place) (declared_from (place + 1) more ++ later) refl finds))
 skip_declared earlier scope place (decls.Int at own literal ∷ more) later finds =
     let one = declared_name (decls.Int at own literal) in
+    skip_more earlier one (declared_names more) scope later
+    (skip_declared (earlier ++ one ∷ []) scope (place + 1) more later (skip_one earlier one scope (variable_entry own (meanings.Int place)) (declared_from (place + 1) more ++ later) refl finds))
+skip_declared earlier scope place (decls.Copied at own source ∷ more) later finds =
+    let one = declared_name (decls.Copied at own source) in
     skip_more earlier one (declared_names more) scope later
     (skip_declared (earlier ++ one ∷ []) scope (place + 1) more later (skip_one earlier one scope (variable_entry own (meanings.Int place)) (declared_from (place + 1) more ++ later) refl finds))
 skip_declared earlier scope place (decls.Flag at own flag ∷ more) later finds =
@@ -188,36 +208,58 @@ record Reads (names : Environment) (scope : List Entry) (arguments : List Value)
   stand : Stand arguments memory first list
 
 -- the values of the declarations from a place on, by their names
-values_named : (names : Environment) (scope : List Entry) (arguments : List Value) (memory : Memory) (first : ℕ) (list : List Value) → Reads names scope arguments memory first list
+values_named : (known : List Decl) (names : Environment) (scope : List Entry) (arguments : List Value) (memory : Memory) (first : ℕ) (list : List Value) → Reads names scope arguments memory first list
     → (place k : ℕ) (declared : List Decl) (rest : List Value) (earlier more : List PlacedName) (later : List Entry) → repeated earlier (declared_names declared ++ more) ≡ [] → place ≡ first + k → drop k list ≡ rest
-    → AreOfKinds (kinds_of (flat_map field_of declared)) rest → FindsLater earlier scope (declared_from place declared ++ later)
-    → map plain_of rest ≡ map (λ field. names field.name) (flat_map field_of declared)
-values_named names scope arguments memory first list reads place k [] [] earlier more later none at is fit finds = refl
-values_named names scope arguments memory first list reads place k [] (value ∷ rest) earlier more later none at is fit finds = absurd fit
-values_named names scope arguments memory first list reads place k (decls.Const from own literal ∷ declared) rest earlier more later none at is fit finds =
+    → AreOfKinds (kinds_of (flat_map (field_of known) declared)) rest → FindsLater earlier scope (declared_from place declared ++ later)
+    → map plain_of rest ≡ map (λ field. names field.name) (flat_map (field_of known) declared)
+values_named known names scope arguments memory first list reads place k [] [] earlier more later none at is fit finds = refl
+values_named known names scope arguments memory first list reads place k [] (value ∷ rest) earlier more later none at is fit finds = absurd fit
+values_named known names scope arguments memory first list reads place k (decls.Const from own literal ∷ declared) rest earlier more later none at is fit finds =
     let one = declared_name (decls.Const from own literal) in
     let both = append_none _ (repeated (earlier ++ one ∷ []) (declared_names declared ++ more)) none in
-    values_named names scope arguments memory first list reads place k declared rest (earlier ++ one ∷ []) more later both.1 at is fit
+    values_named known names scope arguments memory first list reads place k declared rest (earlier ++ one ∷ []) more later both.1 at is fit
     (skip_one earlier one scope (constant_entry own literal) (declared_from place declared ++ later) refl finds)
-values_named names scope arguments memory first list reads place k (decls.Int from own literal ∷ declared) [] earlier more later none at is fit finds = absurd fit
-values_named names scope arguments memory first list reads place k (decls.Int from own literal ∷ declared) (value ∷ rest) earlier more later none at is fit finds =
+values_named known names scope arguments memory first list reads place k (decls.Param from own literal limit ∷ declared) [] earlier more later none at is fit finds = absurd fit
+values_named known names scope arguments memory first list reads place k (decls.Param from own literal limit ∷ declared) (value ∷ rest) earlier more later none at is fit finds =
+    let one = declared_name (decls.Param from own literal limit) in
+    let entry = parameter_entry own place in
+    let both = append_none _ (repeated (earlier ++ one ∷ []) (declared_names declared ++ more)) none in
+    let here = ap (entry_value (reading arguments memory)) (finds_own earlier scope entry (declared_from (place + 1) declared ++ later) (no_fault _ _ both.0) finds) in
+    let stands = ap (λ x. number (number_of_value x)) (reads.stand.at place k value rest at is) ∙ int_is value fit.0 in
+    let next = values_named known names scope arguments memory first list reads (place + 1) (k + 1) declared rest (earlier ++ one ∷ []) more later both.1 (omega arith) (after_rest list k value rest is) fit.1
+    (skip_one earlier one scope entry (declared_from (place + 1) declared ++ later) refl finds) in
+    let field : plain_of value ≡ names own = sym stands ∙ sym here ∙ reads.alike own in
+    λ i. field i ∷ next i
+values_named known names scope arguments memory first list reads place k (decls.Int from own literal ∷ declared) [] earlier more later none at is fit finds = absurd fit
+values_named known names scope arguments memory first list reads place k (decls.Int from own literal ∷ declared) (value ∷ rest) earlier more later none at is fit finds =
     let one = declared_name (decls.Int from own literal) in
     let entry = variable_entry own (meanings.Int place) in
     let both = append_none _ (repeated (earlier ++ one ∷ []) (declared_names declared ++ more)) none in
     let here = ap (entry_value (reading arguments memory)) (finds_own earlier scope entry (declared_from (place + 1) declared ++ later) (no_fault _ _ both.0) finds) in
     let stands = ap (λ x. number (number_of_value x)) (reads.stand.at place k value rest at is) ∙ int_is value fit.0 in
-    let next = values_named names scope arguments memory first list reads (place + 1) (k + 1) declared rest (earlier ++ one ∷ []) more later both.1 (omega arith) (after_rest list k value rest is) fit.1
+    let next = values_named known names scope arguments memory first list reads (place + 1) (k + 1) declared rest (earlier ++ one ∷ []) more later both.1 (omega arith) (after_rest list k value rest is) fit.1
     (skip_one earlier one scope entry (declared_from (place + 1) declared ++ later) refl finds) in
     let field : plain_of value ≡ names own = sym stands ∙ sym here ∙ reads.alike own in
     λ i. field i ∷ next i
-values_named names scope arguments memory first list reads place k (decls.Flag from own flag ∷ declared) [] earlier more later none at is fit finds = absurd fit
-values_named names scope arguments memory first list reads place k (decls.Flag from own flag ∷ declared) (value ∷ rest) earlier more later none at is fit finds =
+values_named known names scope arguments memory first list reads place k (decls.Copied from own source ∷ declared) [] earlier more later none at is fit finds = absurd fit
+values_named known names scope arguments memory first list reads place k (decls.Copied from own source ∷ declared) (value ∷ rest) earlier more later none at is fit finds =
+    let one = declared_name (decls.Copied from own source) in
+    let entry = variable_entry own (meanings.Int place) in
+    let both = append_none _ (repeated (earlier ++ one ∷ []) (declared_names declared ++ more)) none in
+    let here = ap (entry_value (reading arguments memory)) (finds_own earlier scope entry (declared_from (place + 1) declared ++ later) (no_fault _ _ both.0) finds) in
+    let stands = ap (λ x. number (number_of_value x)) (reads.stand.at place k value rest at is) ∙ int_is value fit.0 in
+    let next = values_named known names scope arguments memory first list reads (place + 1) (k + 1) declared rest (earlier ++ one ∷ []) more later both.1 (omega arith) (after_rest list k value rest is) fit.1
+    (skip_one earlier one scope entry (declared_from (place + 1) declared ++ later) refl finds) in
+    let field : plain_of value ≡ names own = sym stands ∙ sym here ∙ reads.alike own in
+    λ i. field i ∷ next i
+values_named known names scope arguments memory first list reads place k (decls.Flag from own flag ∷ declared) [] earlier more later none at is fit finds = absurd fit
+values_named known names scope arguments memory first list reads place k (decls.Flag from own flag ∷ declared) (value ∷ rest) earlier more later none at is fit finds =
     let one = declared_name (decls.Flag from own flag) in
     let entry = variable_entry own (meanings.Flag place) in
     let both = append_none _ (repeated (earlier ++ one ∷ []) (declared_names declared ++ more)) none in
     let here = ap (entry_value (reading arguments memory)) (finds_own earlier scope entry (declared_from (place + 1) declared ++ later) (no_fault _ _ both.0) finds) in
     let stands = ap (λ x. truth (truth_of_value x)) (reads.stand.at place k value rest at is) ∙ bool_is value fit.0 in
-    let next = values_named names scope arguments memory first list reads (place + 1) (k + 1) declared rest (earlier ++ one ∷ []) more later both.1 (omega arith) (after_rest list k value rest is) fit.1
+    let next = values_named known names scope arguments memory first list reads (place + 1) (k + 1) declared rest (earlier ++ one ∷ []) more later both.1 (omega arith) (after_rest list k value rest is) fit.1
     (skip_one earlier one scope entry (declared_from (place + 1) declared ++ later) refl finds) in
     let field : plain_of value ≡ names own = sym stands ∙ sym here ∙ reads.alike own in
     λ i. field i ∷ next i
@@ -228,11 +270,11 @@ values_named names scope arguments memory first list reads place k (decls.Flag f
 record IsGiven (tree : MonitorTree) (placed : PlacedBlock) (state : List Value) (inputs : Inputs) : Type 0 where
   sound : IsFine tree
   fine : IsFinePlaced tree.decls placed
-  fit : AreOfKinds (kinds_of (flat_map field_of tree.decls)) state
+  fit : AreOfKinds (kinds_of (fields_of tree.decls)) state
   taken : AreOfKinds (kinds_taken placed.method) inputs.arguments
   kept : AreOfKinds (kinds_kept placed.method) inputs.locals
 
-few_kinds : (declared : List Decl) → length (flat_map field_of declared) ≤ 16 → length (kinds_of (flat_map field_of declared)) ≤ 16
+few_kinds : (declared : List Decl) → length (fields_of declared) ≤ 16 → length (kinds_of (fields_of declared)) ≤ 16
 few_kinds declared few = rw length-map few
 
 few_taken : (method : MethodTree) (arguments : List Value) → length method.inputs ≤ 6 → AreOfKinds (kinds_taken method) arguments → length arguments ≤ 6
@@ -257,32 +299,32 @@ begins tree placed state inputs given =
     let arguments = inputs.arguments in
     let memory = memory_of state inputs in
     let method = placed.method in
-    let long = as_long (kinds_of (flat_map field_of tree.decls)) state given.fit in
+    let long = as_long (kinds_of (fields_of tree.decls)) state given.fit in
     let few = few_kinds tree.decls given.sound.fields in
     let named = declared_values method.locals inputs.locals in
     let own : Alike (reading arguments memory) (declared_from 22 method.locals ++ []) (named ++ []) =
-    declared_alike arguments memory 22 memory.locals (locals_stand arguments memory) 22 0 method.locals inputs.locals [] [] given.fine.method.literals refl refl given.kept (λ name. refl) in
+    declared_alike [] arguments memory 22 memory.locals (locals_stand arguments memory) 22 0 method.locals inputs.locals [] [] given.fine.method.literals refl refl given.kept (λ name. refl) in
     let locals : Alike (reading arguments memory) (declared_from 22 method.locals) named =
     subst (λ (list : List NamedValue). Alike (reading arguments memory) (declared_from 22 method.locals) list) (append-nil named)
     (subst (λ (list : List Entry). Alike (reading arguments memory) list (named ++ [])) (append-nil (declared_from 22 method.locals)) own) in
     let inputs_too = inputs_alike arguments memory (inputs_stand arguments memory (few_taken method arguments given.fine.method.inputs given.taken)) 16 0 method.inputs arguments (declared_from 22 method.locals) named refl refl given.taken locals in
-    declared_alike arguments memory 0 state (fields_stand arguments memory (omega arith)) 0 0 tree.decls state (inputs_from 16 method.inputs ++ declared_from 22 method.locals) (input_values method.inputs arguments ++ named)
+    declared_alike tree.decls arguments memory 0 state (fields_stand arguments memory (omega arith)) 0 0 tree.decls state (inputs_from 16 method.inputs ++ declared_from 22 method.locals) (input_values method.inputs arguments ++ named)
     given.sound.literals refl refl given.fit inputs_too
 
 -- where the fields and the locals of a memory are read by their names
 named_fields : (tree : MonitorTree) (placed : PlacedBlock) (arguments : List Value) (memory : Memory) (names : Environment) → IsFine tree
-    → ((name : List ℕ) → entry_value (reading arguments memory) (found (scope_of tree.decls placed.method) name) ≡ names name) → AreOfKinds (kinds_of (flat_map field_of tree.decls)) memory.state
-    → map plain_of memory.state ≡ map (λ field. names field.name) (flat_map field_of tree.decls)
+    → ((name : List ℕ) → entry_value (reading arguments memory) (found (scope_of tree.decls placed.method) name) ≡ names name) → AreOfKinds (kinds_of (fields_of tree.decls)) memory.state
+    → map plain_of memory.state ≡ map (λ field. names field.name) (fields_of tree.decls)
 named_fields tree placed arguments memory names sound alike fit =
     let scope = scope_of tree.decls placed.method in
-    let long = as_long (kinds_of (flat_map field_of tree.decls)) memory.state fit in
+    let long = as_long (kinds_of (fields_of tree.decls)) memory.state fit in
     let few = few_kinds tree.decls sound.fields in
-    values_named names scope arguments memory 0 memory.state (record { alike = alike; stand = fields_stand arguments memory (omega arith) }) 0 0 tree.decls memory.state [] (method_names tree.methods)
+    values_named tree.decls names scope arguments memory 0 memory.state (record { alike = alike; stand = fields_stand arguments memory (omega arith) }) 0 0 tree.decls memory.state [] (method_names tree.methods)
     (inputs_from 16 placed.method.inputs ++ declared_from 22 placed.method.locals) sound.names refl refl fit (λ name none. refl)
 
 named_locals : (tree : MonitorTree) (placed : PlacedBlock) (arguments : List Value) (memory : Memory) (names : Environment) → IsFinePlaced tree.decls placed
     → ((name : List ℕ) → entry_value (reading arguments memory) (found (scope_of tree.decls placed.method) name) ≡ names name) → AreOfKinds (kinds_kept placed.method) memory.locals
-    → map plain_of memory.locals ≡ map (λ field. names field.name) (flat_map field_of placed.method.locals)
+    → map plain_of memory.locals ≡ map (λ field. names field.name) (locals_of placed.method.locals)
 named_locals tree placed arguments memory names fine alike fit =
     let method = placed.method in
     let scope = scope_of tree.decls method in
@@ -292,10 +334,10 @@ named_locals tree placed arguments memory names fine alike fit =
     ap (repeated earlier) (append-nil (declared_names method.locals)) ∙ repeated_later (declared_names tree.decls) (input_names method.inputs) (declared_names method.locals) fine.method.names in
     let past = skip_inputs (declared_names tree.decls) scope 16 method.inputs locals (skip_declared [] scope 0 tree.decls (inputs_from 16 method.inputs ++ locals) (λ name none. refl)) in
     let finds : FindsLater earlier scope (locals ++ []) = subst (FindsLater earlier scope) (sym (append-nil locals)) past in
-    values_named names scope arguments memory 22 memory.locals (record { alike = alike; stand = locals_stand arguments memory }) 22 0 method.locals memory.locals earlier [] [] distinct refl refl fit finds
+    values_named [] names scope arguments memory 22 memory.locals (record { alike = alike; stand = locals_stand arguments memory }) 22 0 method.locals memory.locals earlier [] [] distinct refl refl fit finds
 
 -- a block of the tree's fields and a method's locals, run from a state
-block_runs : (tree : MonitorTree) (monitor : MonitorParts) (placed : PlacedBlock) (block : Block) (state : List Value) (inputs : Inputs) → IsGiven tree placed state inputs → monitor.fields ≡ flat_map field_of tree.decls → IsPlaced tree.decls placed block
+block_runs : (tree : MonitorTree) (monitor : MonitorParts) (placed : PlacedBlock) (block : Block) (state : List Value) (inputs : Inputs) → IsGiven tree placed state inputs → monitor.fields ≡ fields_of tree.decls → IsPlaced tree.decls placed block
     → RunsAsWritten monitor placed.method block state inputs (block_run tree.decls placed state inputs)
 block_runs tree monitor placed block state inputs given fields its =
     let scope = scope_of tree.decls placed.method in

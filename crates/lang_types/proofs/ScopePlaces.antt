@@ -16,7 +16,7 @@ use Rattle.lang_forms.specs.declared.scope.Entry.{Entry}
 use Rattle.lang_forms.specs.Scope.{declared_from, entry_at, entry_named, index_of, input_meaning, inputs_from, scope_of}
 use Rattle.lang_forms.proofs.LimitedForms.{both_true}
 use Rattle.lang_monitor.specs.MonitorParts.{Places, is_kind, kind_at, kinds_of, target_at}
-use Rattle.lang_types.specs.Typed.{field_of}
+use Rattle.lang_types.specs.Typed.{field_of, fields_of, locals_of}
 
 -- ---- what fits
 
@@ -100,6 +100,10 @@ input_at places place k is less =
 int_variable : (places : Places) (place : ℕ) → IsVariable places place kinds.Int → (is_kind kinds.Int (kind_at places place) && is_kind kinds.Int (target_at places place)) ≡ true
 int_variable places place is = ap (λ kind. is_kind kinds.Int kind && is_kind kinds.Int (target_at places place)) is.here ∙ ap (is_kind kinds.Int) is.target
 
+-- a place to which nothing is assigned
+int_parameter : (places : Places) (place : ℕ) → IsVariable places place kinds.Int → (is_kind kinds.Int (kind_at places place) && true) ≡ true
+int_parameter places place is = ap (λ kind. is_kind kinds.Int kind && true) is.here
+
 bool_variable : (places : Places) (place : ℕ) → IsVariable places place kinds.Bool → (is_kind kinds.Bool (kind_at places place) && is_kind kinds.Bool (target_at places place)) ≡ true
 bool_variable places place is = ap (λ kind. is_kind kinds.Bool kind && is_kind kinds.Bool (target_at places place)) is.here ∙ ap (is_kind kinds.Bool) is.target
 
@@ -133,33 +137,41 @@ fields_hold places few = record {
 locals_hold : (places : Places) → Hold places 22 places.locals
 locals_hold places = record { at = λ place k kind rest at is. local_at places place k kind at (first_of_rest places.locals k kind rest is) }
 
-declared_fit : (places : Places) (first : ℕ) (list : List Kind) → Hold places first list → (place k : ℕ) (declared : List Decl) → place ≡ first + k → drop k list ≡ kinds_of (flat_map field_of declared) → fits_scope places (declared_from place declared) ≡ true
-declared_fit places first list hold place k [] at rest = refl
-declared_fit places first list hold place k (decls.Const from name value ∷ more) at rest = declared_fit places first list hold place k more at rest
-declared_fit places first list hold place k (decls.Int from name value ∷ more) at rest =
-    let here = hold.at place k kinds.Int (kinds_of (flat_map field_of more)) at rest in
-    let next = after_rest list k kinds.Int (kinds_of (flat_map field_of more)) rest in
-    rw (int_variable places place here, declared_fit places first list hold (place + 1) (k + 1) more (omega arith) next) refl
-declared_fit places first list hold place k (decls.Flag from name value ∷ more) at rest =
-    let here = hold.at place k kinds.Bool (kinds_of (flat_map field_of more)) at rest in
-    let next = after_rest list k kinds.Bool (kinds_of (flat_map field_of more)) rest in
-    rw (bool_variable places place here, declared_fit places first list hold (place + 1) (k + 1) more (omega arith) next) refl
+declared_fit : (known : List Decl) (places : Places) (first : ℕ) (list : List Kind) → Hold places first list → (place k : ℕ) (declared : List Decl) → place ≡ first + k → drop k list ≡ kinds_of (flat_map (field_of known) declared) → fits_scope places (declared_from place declared) ≡ true
+declared_fit known places first list hold place k [] at rest = refl
+declared_fit known places first list hold place k (decls.Const from name value ∷ more) at rest = declared_fit known places first list hold place k more at rest
+declared_fit known places first list hold place k (decls.Param from name value limit ∷ more) at rest =
+    let here = hold.at place k kinds.Int (kinds_of (flat_map (field_of known) more)) at rest in
+    let next = after_rest list k kinds.Int (kinds_of (flat_map (field_of known) more)) rest in
+    rw (int_parameter places place here, declared_fit known places first list hold (place + 1) (k + 1) more (omega arith) next) refl
+declared_fit known places first list hold place k (decls.Int from name value ∷ more) at rest =
+    let here = hold.at place k kinds.Int (kinds_of (flat_map (field_of known) more)) at rest in
+    let next = after_rest list k kinds.Int (kinds_of (flat_map (field_of known) more)) rest in
+    rw (int_variable places place here, declared_fit known places first list hold (place + 1) (k + 1) more (omega arith) next) refl
+declared_fit known places first list hold place k (decls.Copied from name source ∷ more) at rest =
+    let here = hold.at place k kinds.Int (kinds_of (flat_map (field_of known) more)) at rest in
+    let next = after_rest list k kinds.Int (kinds_of (flat_map (field_of known) more)) rest in
+    rw (int_variable places place here, declared_fit known places first list hold (place + 1) (k + 1) more (omega arith) next) refl
+declared_fit known places first list hold place k (decls.Flag from name value ∷ more) at rest =
+    let here = hold.at place k kinds.Bool (kinds_of (flat_map (field_of known) more)) at rest in
+    let next = after_rest list k kinds.Bool (kinds_of (flat_map (field_of known) more)) rest in
+    rw (bool_variable places place here, declared_fit known places first list hold (place + 1) (k + 1) more (omega arith) next) refl
 
 -- the kinds of the fields, and of a method's inputs and locals
 abbrev pub scope_places : List Decl → MethodTree → Places
 scope_places declared method = record {
-  fields = kinds_of (flat_map field_of declared);
+  fields = kinds_of (fields_of declared);
   inputs = map (λ input. input.kind) method.inputs;
-  locals = kinds_of (flat_map field_of method.locals);
+  locals = kinds_of (locals_of method.locals);
 }
 
 -- With at most 16 fields and 6 inputs each entry of a scope has a place of its kind.
-pub scope_fits : (declared : List Decl) (method : MethodTree) → length (kinds_of (flat_map field_of declared)) ≤ 16 → length (map (λ input. input.kind) method.inputs) ≤ 6 → fits_scope (scope_places declared method) (scope_of declared method) ≡ true
+pub scope_fits : (declared : List Decl) (method : MethodTree) → length (kinds_of (fields_of declared)) ≤ 16 → length (map (λ input. input.kind) method.inputs) ≤ 6 → fits_scope (scope_places declared method) (scope_of declared method) ≡ true
 scope_fits declared method few few_inputs =
     let places = scope_places declared method in
-    let fields = declared_fit places 0 places.fields (fields_hold places few) 0 0 declared refl refl in
+    let fields = declared_fit declared places 0 places.fields (fields_hold places few) 0 0 declared refl refl in
     let inputs = inputs_fit places 16 0 method.inputs few_inputs refl refl in
-    let locals = declared_fit places 22 places.locals (locals_hold places) 22 0 method.locals refl refl in
+    let locals = declared_fit [] places 22 places.locals (locals_hold places) 22 0 method.locals refl refl in
     list_all-append (fits_entry places) (declared_from 0 declared) (inputs_from 16 method.inputs ++ declared_from 22 method.locals)
     ∙ rw (fields, list_all-append (fits_entry places) (inputs_from 16 method.inputs) (declared_from 22 method.locals), inputs, locals) refl
 

@@ -18,7 +18,7 @@ use Rattle.lang_tree.specs.declared.tree.MonitorTree.{MonitorTree}
 use Rattle.lang_tokens.specs.Words.{Word, word, words}
 use Rattle.lang_tokens.specs.Spelling.{IsShape, Piece, AreCut, token, tokens_from, Spells}
 use Rattle.lang_tokens.proofs.Signs.{sign_begins}
-use Rattle.lang_syntax.specs.Grammar.{Rule, ◌⌢◌, Each, OneOrMore, Single, AreBlocks, IsIdent, IsMark, IsLiteral, IsDeclaration, IsLocal, IsGuarded, IsAsserted, IsInput, AreInputs, IsMethod, IsMonitorFile, IsParsed, truth_word, kind_word}
+use Rattle.lang_syntax.specs.Grammar.{Rule, ◌⌢◌, Each, OneOrMore, Single, AreBlocks, IsIdent, IsMark, IsLiteral, IsDeclaration, IsLimit, IsLocal, IsSpelled, PARAM, IsGuarded, IsAsserted, IsInput, AreInputs, IsMethod, IsMonitorFile, IsParsed, truth_word, kind_word}
 use Rattle.lang_rules.specs.Rules.{HasFewNames}
 use Rattle.lang_types.specs.inner.Making.{HasBlocks}
 
@@ -56,6 +56,9 @@ record Takes (Says : List Word → Type 0) (count : ℕ) : Type 0 where
 takes_mark : (kind : TokenKind) → Takes (IsMark kind) 1
 takes_mark kind = record { takes = λ ws is. subst (λ (w : List Word). 1 ≤ length w) (sym is.1) (omega arith) }
 
+takes_spelled : (letters : List ℕ) → Takes (IsSpelled letters) 1
+takes_spelled letters = record { takes = λ ws is. subst (λ (w : List Word). 1 ≤ length w) (sym is.1) (omega arith) }
+
 in_order : (First Second : List Word → Type 0) (count more : ℕ) → Takes First count → Takes Second more → Takes (First ⌢ Second) (count + more)
 in_order First Second count more one other = record {
   takes = λ ws is.
@@ -91,7 +94,9 @@ takes_each IsTree one (tree ∷ trees) = record {
 
 takes_declaration : (declared : Decl) → Takes (IsDeclaration declared) 1
 takes_declaration (decls.Const at name value) = in_first (IsMark kinds.KeyConst) (IsIdent name at ⌢ IsMark kinds.Assign ⌢ IsLiteral value ⌢ IsMark kinds.Semicolon) 1 (takes_mark kinds.KeyConst)
+takes_declaration (decls.Param at name value limit) = in_first (IsSpelled PARAM) (IsIdent name at ⌢ IsMark kinds.Assign ⌢ IsLiteral value ⌢ IsLimit limit ⌢ IsMark kinds.Semicolon) 1 (takes_spelled PARAM)
 takes_declaration (decls.Int at name value) = in_first (IsMark kinds.KeyInt) (IsIdent name at ⌢ IsMark kinds.Assign ⌢ IsLiteral value ⌢ IsMark kinds.Semicolon) 1 (takes_mark kinds.KeyInt)
+takes_declaration (decls.Copied at name source) = in_first (IsMark kinds.KeyInt) (IsIdent name at ⌢ IsMark kinds.Assign ⌢ IsIdent source.name source.at ⌢ IsMark kinds.Semicolon) 1 (takes_mark kinds.KeyInt)
 takes_declaration (decls.Flag at name value) = in_first (IsMark kinds.KeyBool) (IsIdent name at ⌢ IsMark kinds.Assign ⌢ IsMark (truth_word value) ⌢ IsMark kinds.Semicolon) 1 (takes_mark kinds.KeyBool)
 
 takes_input : (input : InputTree) → Takes (IsInput input) 1
@@ -110,7 +115,9 @@ takes_inputs (first ∷ rest) = record {
 
 takes_local : (local : Decl) → Takes (IsLocal local) 1
 takes_local (decls.Const at name value) = record { takes = λ ws is. absurd is }
+takes_local (decls.Param at name value limit) = record { takes = λ ws is. absurd is }
 takes_local (decls.Int at name value) = in_first (IsMark kinds.KeyLocal) (IsDeclaration (decls.Int at name value)) 1 (takes_mark kinds.KeyLocal)
+takes_local (decls.Copied at name source) = record { takes = λ ws is. absurd is }
 takes_local (decls.Flag at name value) = in_first (IsMark kinds.KeyLocal) (IsDeclaration (decls.Flag at name value)) 1 (takes_mark kinds.KeyLocal)
 
 -- ---- methods

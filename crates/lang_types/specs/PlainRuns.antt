@@ -1,7 +1,6 @@
 -- What the statements of a tree do, by ordinary arithmetic and logic, where each name has a value.
 use Rattle.std.specs.Prelude.{◌≡◌, ℕ, ℤ, pos, false, List, [], ◌∷◌, ◌++◌, map, Option, Some, None}
 use Rattle.std.specs.Prelude.{slice_get, if◌then◌else◌}
-use Rattle.std.specs.List.{flat_map}
 use Rattle.std.specs.Option.{option_map}
 use Rattle.std.specs.Str.{bytes_eq}
 use Rattle.lang_tree.specs.declared.tree.Decl.{Decl}
@@ -25,7 +24,7 @@ use Rattle.lang_monitor.specs.declared.monitor.Block.{Block}
 use Rattle.lang_monitor.specs.declared.monitor.Field.{Field}
 use Rattle.lang_monitor.specs.MonitorParts.{MonitorParts, AreOfKinds, kinds_of}
 use Rattle.lang_monitor.specs.Bodies.{Inputs, after, block_result}
-use Rattle.lang_types.specs.Typed.{PlacedBlock, blocks_from, field_of, literal_value}
+use Rattle.lang_types.specs.Typed.{PlacedBlock, blocks_from, literal_value, locals_of}
 
 -- ---- what names stand for
 
@@ -48,12 +47,16 @@ abbrev pub plain_of : Value → Plain
 plain_of (values.Int value) = number value
 plain_of (values.Bool value) = truth value
 
--- a constant is its written number, and the fields or the locals have these values, in the order of
--- the file
+-- a constant is its written number, and parameters and fields, or the locals, have these values, in
+-- the order of the file
 abbrev pub declared_values : List Decl → List Value → List NamedValue
 declared_values (decls.Const at name value ∷ more) state =
     record { name = name; value = number (literal_value value) } ∷ declared_values more state
+declared_values (decls.Param at name value limit ∷ more) (first ∷ rest) =
+    record { name = name; value = plain_of first } ∷ declared_values more rest
 declared_values (decls.Int at name value ∷ more) (first ∷ rest) =
+    record { name = name; value = plain_of first } ∷ declared_values more rest
+declared_values (decls.Copied at name source ∷ more) (first ∷ rest) =
     record { name = name; value = plain_of first } ∷ declared_values more rest
 declared_values (decls.Flag at name value ∷ more) (first ∷ rest) =
     record { name = name; value = plain_of first } ∷ declared_values more rest
@@ -139,7 +142,7 @@ pub record RunsAsWritten (monitor : MonitorParts) (method : MethodTree) (block :
   pub reaches : map plain_of (after inputs block.body state).state
       ≡ named_values end monitor.fields
   pub keeps : map plain_of (after inputs block.body state).locals
-      ≡ named_values end (flat_map field_of method.locals)
+      ≡ named_values end (locals_of method.locals)
   pub answers : option_map plain_of (block_result inputs block state) ≡ end.returned
 
 abbrev pub kinds_taken : MethodTree → List Kind
@@ -147,7 +150,7 @@ kinds_taken method = map (λ input. input.kind) method.inputs
 
 -- the kinds of a method's locals
 abbrev pub kinds_kept : MethodTree → List Kind
-kinds_kept method = kinds_of (flat_map field_of method.locals)
+kinds_kept method = kinds_of (locals_of method.locals)
 
 -- what the statements of a block do to a state and locals
 abbrev pub block_run : List Decl → PlacedBlock → List Value → Inputs → PlainState

@@ -1,8 +1,11 @@
 -- The monitor that a tree stands for.
-use Rattle.std.specs.Prelude.{◌≡◌, ℕ, ◌+◌, ◌-◌, ◌⊎◌, ℤ, pos, true, false, List, [], ◌∷◌, ◌++◌, length}
-use Rattle.std.specs.Prelude.{map, All, Option, Some, None, slice_get, IsSomeAnd}
+use Rattle.std.specs.Prelude.{◌≡◌, ◌↔◌, IsTrue, ℕ, ◌+◌, ◌-◌, ◌⊎◌, ℤ, pos, neg_ℤ, ◌+ℤ◌, true, false}
+use Rattle.std.specs.Prelude.{List, [], ◌∷◌, ◌++◌, length, map, All, Option, Some, None, slice_get}
+use Rattle.std.specs.Prelude.{IsSomeAnd, if◌then◌else◌}
 use Rattle.std.specs.List.{flat_map}
-use Rattle.lang_tree.specs.declared.tree.Lit.{Lit}
+use Rattle.lang_tree.specs.declared.tree.LimitSign.{LimitSign}
+use Rattle.lang_tree.specs.declared.tree.LimitSign.TheVariants as signs
+use Rattle.lang_tree.specs.declared.tree.LimitTree.{LimitTree}
 use Rattle.lang_tree.specs.declared.tree.Decl.{Decl}
 use Rattle.lang_tree.specs.declared.tree.Decl.TheVariants as decls
 use Rattle.lang_tree.specs.declared.tree.StmtTree.{StmtTree, out-StmtTree}
@@ -18,11 +21,18 @@ use Rattle.lang_base.specs.declared.kind.Kind.TheVariants as kinds
 use Rattle.lang_forms.specs.declared.scope.Meaning.{Meaning}
 use Rattle.lang_forms.specs.declared.scope.Meaning.TheVariants as meanings
 use Rattle.lang_forms.specs.declared.scope.Entry.{Entry}
-use Rattle.lang_forms.specs.Scope.{signed, scope_of, entry_named}
+use Rattle.lang_forms.specs.Scope.{entry_named, field_count, scope_of}
+pub use Rattle.lang_forms.specs.Scope.{literal_value}
 use Rattle.lang_forms.specs.Forms.{linear_of}
 use Rattle.lang_forms.specs.Sense.{Sense, sense}
+use Rattle.lang_rules.specs.Rules.{is_source, meets}
 use Rattle.lang_base.specs.declared.value.Value.{Value}
 use Rattle.lang_base.specs.declared.value.Value.TheVariants as values
+use Rattle.lang_monitor.specs.declared.start.Limit.{Limit}
+use Rattle.lang_monitor.specs.declared.start.Limit.TheVariants as limits
+use Rattle.lang_monitor.specs.declared.start.Origin.{Origin}
+use Rattle.lang_monitor.specs.declared.start.Origin.TheVariants as origins
+use Rattle.lang_monitor.specs.Starts.{Admits}
 use Rattle.lang_monitor.specs.declared.monitor.Field.{Field}
 use Rattle.lang_monitor.specs.declared.monitor.Method.{Method}
 use Rattle.lang_monitor.specs.declared.monitor.Stmt.{Stmt}
@@ -34,22 +44,72 @@ use Rattle.lang_monitor.specs.declared.monitor.Condition.{Condition}
 use Rattle.lang_monitor.specs.MonitorParts.{MonitorParts}
 use Rattle.lang_monitor.specs.Inputs.{reads_inputs}
 
+-- ---- limits
+
+-- the numbers that compare with the bound as the sign says
+abbrev pub limit_at : LimitSign → ℤ → Limit
+limit_at signs.Equal bound = limits.Exactly bound
+limit_at signs.Less bound = limits.AtMost (bound +ℤ neg_ℤ (pos 1))
+limit_at signs.AtMost bound = limits.AtMost bound
+limit_at signs.More bound = limits.AtLeast (bound +ℤ pos 1)
+limit_at signs.AtLeast bound = limits.AtLeast bound
+
+abbrev pub limit_of : LimitTree → Limit
+limit_of limit = limit_at limit.sign (literal_value limit.bound)
+
+-- the limit of a condition admits exactly the numbers that meet the condition
+abbrev pub LimitsAsWritten : LimitTree → Type 0
+LimitsAsWritten limit = (number : ℤ) → Admits (limit_of limit) number ↔ IsTrue (meets limit number)
+
 -- ---- fields and methods
 
-abbrev pub literal_value : Lit → ℤ
-literal_value literal = signed literal.minus (pos literal.digits)
+-- with which number an int starts, and whence it has that
+pub record IntStart : Type 0 where
+  pub number : ℤ
+  pub origin : Origin
 
--- a declaration's field, or a local's name, kind and value at the start; a constant is neither
-abbrev pub field_of : Decl → List Field
-field_of (decls.Const at name value) = []
-field_of (decls.Int at name value) =
-    record { name = name; kind = kinds.Int; start = values.Int (literal_value value) } ∷ []
-field_of (decls.Flag at name value) =
-    record { name = name; kind = kinds.Bool; start = values.Bool value } ∷ []
+-- the number of a constant, or that of the parameter with this place among the fields
+abbrev pub copied_from : ℕ → Decl → IntStart
+copied_from place (decls.Const at name value) =
+    record { number = literal_value value; origin = origins.Own }
+copied_from place (decls.Param at name value limit) =
+    record { number = literal_value value; origin = origins.Copied place }
+copied_from place decl = record { number = pos 0; origin = origins.Own }
 
--- the values that variables have at the start: fields once, and the locals of a method in each call
+-- The start that copies the constant or the parameter of this name, of declarations whose first
+-- field has this place. By the rules there is just one.
+abbrev pub copy_of : List ℕ → ℕ → List Decl → IntStart
+copy_of wanted place [] = record { number = pos 0; origin = origins.Own }
+copy_of wanted place (decl ∷ more) =
+    if is_source wanted decl then copied_from place decl
+    else copy_of wanted (place + field_count (decl ∷ [])) more
+
+abbrev pub int_field : List ℕ → ℤ → Origin → Field
+int_field name number origin =
+    record { name = name; kind = kinds.Int; start = values.Int number; origin = origin }
+
+-- The field of a declaration, or a local's name, kind and value at the start; a constant is
+-- neither. A start may be copied from what is known.
+abbrev pub field_of : List Decl → Decl → List Field
+field_of known (decls.Const at name value) = []
+field_of known (decls.Param at name value limit) =
+    int_field name (literal_value value) (origins.Chosen (limit_of limit)) ∷ []
+field_of known (decls.Int at name value) = int_field name (literal_value value) origins.Own ∷ []
+field_of known (decls.Copied at name source) =
+    let start = copy_of source.name 0 known in int_field name start.number start.origin ∷ []
+field_of known (decls.Flag at name value) =
+    record { name = name; kind = kinds.Bool; start = values.Bool value; origin = origins.Own } ∷ []
+
+abbrev pub fields_of : List Decl → List Field
+fields_of declared = flat_map (field_of declared) declared
+
+-- locals copy nothing
+abbrev pub locals_of : List Decl → List Field
+locals_of declared = flat_map (field_of []) declared
+
+-- the values that the locals of a method have at the start of each call
 abbrev pub starts_of : List Decl → List Value
-starts_of declared = map (λ field. field.start) (flat_map field_of declared)
+starts_of declared = map (λ field. field.start) (locals_of declared)
 
 -- the method of a tree, whose first block has this number
 abbrev pub method_of : ℕ → MethodTree → Method
@@ -178,7 +238,7 @@ AreConditions before some blocks all = ⊥
 -- the monitor has the tree's name, fields, methods, blocks and conditions
 pub record IsTyped (tree : MonitorTree) (monitor : MonitorParts) : Type 0 where
   pub name : monitor.name ≡ tree.name
-  pub fields : monitor.fields ≡ flat_map field_of tree.decls
+  pub fields : monitor.fields ≡ fields_of tree.decls
   pub methods : monitor.methods ≡ methods_from 0 tree.methods
   pub blocks : AreBlocksOf tree.decls (blocks_from 0 tree.methods) monitor.blocks
   pub conditions :

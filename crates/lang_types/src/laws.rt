@@ -1,12 +1,13 @@
 //! What follows from the definitions alone.
 
 ghost use Rattle.std.specs.Prelude.{◌≡◌, ℕ, [], All, Some, slice_get};
+ghost use Rattle.lang_tree.specs.declared.tree.LimitTree.{LimitTree};
 ghost use Rattle.lang_tree.specs.declared.tree.MonitorTree.{MonitorTree};
 ghost use Rattle.logic_linear.specs.Truth.{Valuation, truth_of};
 ghost use Rattle.lang_rules.specs.Rules.{faults_of};
 ghost use Rattle.lang_monitor.specs.declared.monitor.Block.{Block};
 ghost use Rattle.lang_monitor.specs.MonitorParts.{MonitorParts};
-ghost use Rattle.lang_types.specs.Typed.{IsTyped, PlacedBlock, blocks_from};
+ghost use Rattle.lang_types.specs.Typed.{IsTyped, LimitsAsWritten, PlacedBlock, blocks_from};
 ghost use Rattle.lang_types.specs.KeptMeaning.{BodyKeepsMeaning, plain_guard};
 ghost use Rattle.lang_types.specs.PlainRuns.{MonitorRunsAsWritten};
 
@@ -32,4 +33,9 @@ pub fn forms_keep_meaning()
 pub fn bodies_keep_meaning()
     ensures { (tree : MonitorTree) (monitor : MonitorParts)
         → faults_of tree ≡ [] → IsTyped tree monitor → MonitorRunsAsWritten tree monitor }
+{}
+
+/// A parameter may have exactly the numbers that meet its condition as it is written.
+pub fn limits_are_conditions()
+    ensures { (limit : LimitTree) → LimitsAsWritten limit }
 {}

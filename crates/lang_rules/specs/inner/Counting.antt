@@ -8,7 +8,9 @@ use Rattle.lang_tree.specs.declared.tree.StmtTree.TheOpen.{StmtTree-F, Set, If, 
 
 abbrev pub declares_constant : Decl → Bool
 declares_constant (decls.Const at name value) = true
+declares_constant (decls.Param at name value limit) = false
 declares_constant (decls.Int at name value) = false
+declares_constant (decls.Copied at name source) = false
 declares_constant (decls.Flag at name value) = false
 
 abbrev pub statement_place : StmtTree-F StmtTree → ℕ

@@ -7,6 +7,9 @@ use Rattle.lang_tokens.specs.declared.token.TokenKind.{TokenKind}
 use Rattle.lang_tokens.specs.declared.token.TokenKind.TheVariants as kinds
 use Rattle.lang_tokens.specs.Words.{Word}
 use Rattle.lang_tree.specs.declared.tree.Lit.{Lit}
+use Rattle.lang_tree.specs.declared.tree.PlacedName.{PlacedName}
+use Rattle.lang_tree.specs.declared.tree.LimitSign.{LimitSign}
+use Rattle.lang_tree.specs.declared.tree.LimitTree.{LimitTree}
 use Rattle.lang_tree.specs.declared.tree.Decl.{Decl}
 use Rattle.lang_tree.specs.declared.tree.Decl.TheVariants as decls
 use Rattle.lang_tree.specs.declared.tree.InputTree.{InputTree}
@@ -25,18 +28,19 @@ use Rattle.lang_tree.specs.declared.tree.Item.{Item}
 use Rattle.lang_tree.specs.declared.tree.Item.TheVariants as items
 use Rattle.lang_tree.specs.declared.tree.ClientTree.{ClientTree}
 use Rattle.lang_tree.specs.declared.tree.ClientsTree.{ClientsTree}
-use Rattle.lang_cursor.specs.declared.word.PlacedName.{PlacedName}
 use Rattle.lang_cursor.specs.declared.word.PlacedNumber.{PlacedNumber}
 use Rattle.lang_cursor.specs.Arguments.{negative}
 use Rattle.lang_cursor.specs.Reading.{Read, ◌⊗◌, made_at, choice_at, pure_at, each_at, whole}
 use Rattle.lang_cursor.specs.Reading.{placed_at, mark_at, ident_at, numeral_at, listed_at, braces_at}
-use Rattle.lang_cursor.specs.Reading.{truth_of, op_of, minus_of, kind_of, begins, begins_listed}
-use Rattle.lang_cursor.specs.Reading.{begins_ident, begins_spelled, spelled_at, atom_at}
-use Rattle.lang_cursor.specs.Reading.{plain_argument_at}
+use Rattle.lang_cursor.specs.Reading.{truth_of, op_of, limit_sign_of, minus_of, kind_of, begins}
+use Rattle.lang_cursor.specs.Reading.{begins_listed, begins_ident, begins_spelled, spelled_at}
+use Rattle.lang_cursor.specs.Reading.{atom_at, plain_argument_at}
+use Rattle.lang_syntax.specs.declared.declaration_parser.Start.{Start}
+use Rattle.lang_syntax.specs.declared.declaration_parser.Start.TheVariants as starts
 use Rattle.lang_syntax.specs.declared.expression_parser.Join.{Join}
 use Rattle.lang_syntax.specs.declared.expression_parser.Join.TheVariants as joins
 use Rattle.lang_syntax.specs.declared.item_parser.CallHead.{CallHead}
-use Rattle.lang_syntax.specs.Grammar.{chain, comparison, both, either, ASSERTS}
+use Rattle.lang_syntax.specs.Grammar.{chain, comparison, both, either, WHERE, PARAM, ASSERTS}
 
 -- ---- what comes next
 
@@ -48,7 +52,8 @@ begins_item ws = begins_ident ws || (begins kinds.KeyRepeat ws || begins kinds.K
 
 unfoldable pub begins_declaration : List Word → Bool
 begins_declaration ws =
-    begins kinds.KeyConst ws || (begins kinds.KeyInt ws || begins kinds.KeyBool ws)
+    begins kinds.KeyConst ws
+    || (begins kinds.KeyInt ws || (begins kinds.KeyBool ws || begins_spelled PARAM ws))
 
 -- ---- expressions, over the reader of a unary expression
 
@@ -243,14 +248,62 @@ constant_at = made_at constant_of (declared_at kinds.KeyConst literal_at)
 unfoldable pub int_at : List Word → Read Decl
 int_at = made_at int_of (declared_at kinds.KeyInt literal_at)
 
+-- "where" "(" ID sign literal ")"
+abbrev pub limit_of : ℕ
+    × (Unit {0} × (PlacedName × (LimitSign × (Lit × Unit {0})))) → LimitTree
+limit_of (word, (left, (subject, (sign, (bound, right))))) =
+    record { subject = subject; sign = sign; bound = bound }
+
+unfoldable pub limit_at : List Word → Read LimitTree
+limit_at =
+    made_at limit_of (spelled_at WHERE ⊗ mark_at kinds.OpenParen ⊗ ident_at ⊗ listed_at
+    limit_sign_of ⊗ literal_at ⊗ mark_at kinds.CloseParen)
+
+-- "param" ID "=" literal limit ";"
+abbrev pub parameter_of : ℕ
+    × (PlacedName × (Unit {0} × (Lit × (LimitTree × Unit {0})))) → Decl
+parameter_of (word, (name, (assign, (value, (limit, semicolon))))) =
+    decls.Param name.at name.name value limit
+
+unfoldable pub parameter_at : List Word → Read Decl
+parameter_at =
+    made_at parameter_of (spelled_at PARAM ⊗ ident_at ⊗ mark_at kinds.Assign ⊗ literal_at ⊗
+    limit_at ⊗ mark_at kinds.Semicolon)
+
+-- literal | ID
+abbrev pub copy_of : PlacedName → Start
+copy_of source = starts.Copy source
+
+abbrev pub number_of : Lit → Start
+number_of value = starts.Number value
+
+unfoldable pub start_at : List Word → Read Start
+start_at = choice_at begins_ident (made_at copy_of ident_at) (made_at number_of literal_at)
+
+-- "int" ID "=" start ";"
+abbrev pub started : ℕ → List ℕ → Start → Decl
+started at name (starts.Number value) = decls.Int at name value
+started at name (starts.Copy source) = decls.Copied at name source
+
+abbrev pub started_of : Declared Start → Decl
+started_of (word, (name, (assign, (value, semicolon)))) = started name.at name.name value
+
+unfoldable pub started_at : List Word → Read Decl
+started_at = made_at started_of (declared_at kinds.KeyInt start_at)
+
 unfoldable pub flag_at : List Word → Read Decl
 flag_at = made_at flag_of (declared_at kinds.KeyBool (listed_at truth_of))
 
 unfoldable pub variable_at : List Word → Read Decl
 variable_at = choice_at (begins kinds.KeyInt) int_at flag_at
 
+unfoldable pub stateful_at : List Word → Read Decl
+stateful_at = choice_at (begins kinds.KeyInt) started_at flag_at
+
 unfoldable pub declaration_at : List Word → Read Decl
-declaration_at = choice_at (begins kinds.KeyConst) constant_at variable_at
+declaration_at =
+    choice_at (begins kinds.KeyConst) constant_at
+    (choice_at (begins_spelled PARAM) parameter_at stateful_at)
 
 unfoldable pub declarations_at : List Word → Read (List Decl)
 declarations_at = each_at begins_declaration declaration_at

@@ -3,8 +3,11 @@ use Rattle.lang_types.proofs.FineTrees.{fine_tree, none_each}
 use Rattle.lang_types.proofs.MonitorMade.{few_declared, few_fields, made_is_monitor, small_parts}
 use Rattle.lang_types.proofs.making.monitor_of.Goals as goal
 
-pub fields_of-requires : goal.fields_of-requires
-fields_of-requires c = rw c.items-decls.ensures (none_each literal_faults c.args.tree.now.decls (fine_tree c.args.tree.now c.requires.fine).literals)
+pub fields_of-requires-clause-few : goal.fields_of-requires-clause-few
+fields_of-requires-clause-few c = rw c.items-decls.ensures (few_declared c.args.tree.now c.requires.fine)
+
+pub fields_of-requires-clause-small : goal.fields_of-requires-clause-small
+fields_of-requires-clause-small c = rw c.items-decls.ensures (none_each literal_faults c.args.tree.now.decls (fine_tree c.args.tree.now c.requires.fine).literals)
 
 pub methods_of-requires-clause-few : goal.methods_of-requires-clause-few
 methods_of-requires-clause-few c = rw c.items-trees.ensures (fine_tree c.args.tree.now c.requires.fine).methods

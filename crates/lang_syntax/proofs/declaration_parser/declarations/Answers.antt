@@ -1,7 +1,7 @@
 use Rattle.std.proofs.Common.{◌≡◌, refl, rules, Ok}
 use Rattle.lang_syntax.specs.inner.Reading.{begins_declaration, declaration_at, declarations_at}
 use Rattle.lang_syntax.proofs.ListItems.{declaration_items}
-use Rattle.lang_syntax.proofs.monitor_parser.declarations.Goals as goal
+use Rattle.lang_syntax.proofs.declaration_parser.declarations.Goals as goal
 
 pub many-requires : goal.many-requires
 many-requires c κs = (

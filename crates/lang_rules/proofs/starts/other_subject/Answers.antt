@@ -1,0 +1,12 @@
+use Rattle.std.proofs.Common.{arith, rules}
+use Rattle.lang_rules.specs.Rules.{subject_faults}
+use Rattle.lang_base.proofs.Least.{least_all, least_turn}
+use Rattle.lang_base.specs.SourceFaults.{order}
+use Rattle.lang_rules.proofs.starts.other_subject.Goals as goal
+
+pub loop-decl-preserved : goal.loop-decl-preserved
+loop-decl-preserved c =
+    least_turn order subject_faults c.args.decls.now c.loop-decl.decl-index c.decl-item.result _ _ _ (search rules) c.decl-item.is c.loop-decl.invariant c.subject_fault.ensures c.earlier_of-fault.ensures
+
+pub returns : goal.returns
+returns c = least_all order subject_faults c.args.decls.now c.loop-decl.decl-index _ (omega arith) c.loop-decl.invariant
