@@ -23,8 +23,11 @@ use Rattle.lang_monitor.specs.declared.candidate.Candidate.TheVariants as candid
 use Rattle.lang_monitor.specs.declared.monitor.Field.{Field}
 use Rattle.lang_monitor.specs.declared.monitor.Block.{Block}
 use Rattle.lang_monitor.specs.Bodies.{number_of_value, fits_64}
-use Rattle.lang_monitor.specs.MonitorParts.{MonitorParts, IsMonitor, Places, fits_term, fits_formula_step, fits_formula}
-use Rattle.lang_monitor.specs.Candidates.{once, opposite, bound_of, around, guard_bounds, distinct, MOST_BOUNDS, pool, bounded, kind_candidates, field_candidates, int_fields, pair_candidates, candidates_of}
+use Rattle.lang_monitor.specs.declared.start.Origin.{Origin}
+use Rattle.lang_monitor.specs.declared.start.Origin.TheVariants as origins
+use Rattle.lang_monitor.specs.Starts.{limit_number}
+use Rattle.lang_monitor.specs.MonitorParts.{MonitorParts, IsMonitor, HasOrigin, Places, fits_term, fits_formula_step, fits_formula}
+use Rattle.lang_monitor.specs.Candidates.{once, opposite, bound_of, around, guard_bounds, distinct, MOST_BOUNDS, pool, bounded, kind_candidates, field_candidates, int_fields, pair_candidates, candidates_of, own_numbers}
 use Rattle.lang_monitor.specs.Triples.{places_of}
 use Rattle.logic_wp.specs.Expressible.{is_expressible}
 use Rattle.logic_wp.proofs.Fitting.{block_fits}
@@ -161,16 +164,16 @@ blocks_small : (monitor : MonitorParts) → IsMonitor monitor
 blocks_small monitor rule = each_small monitor.blocks (λ index block is.
     small_rows (places_of monitor block) block.guard (block_fits monitor index block rule is).guard)
 
-pool_small : (blocks : List Block) (field : ℕ) (start : ℤ) → list_all has_small_rows blocks ≡ true
-    → is_within (2 ^ 65) start ≡ true → list_all (is_within (2 ^ 65)) (pool blocks field start)
+pool_small : (blocks : List Block) (field : ℕ) (own : List ℤ) → list_all has_small_rows blocks ≡ true
+    → list_all (is_within (2 ^ 65)) own ≡ true → list_all (is_within (2 ^ 65)) (pool blocks field own)
     ≡ true
-pool_small blocks field start e f =
+pool_small blocks field own e f =
     let guards : List ℤ = flat_map (guard_bounds field) blocks in
-    let numbers : List ℤ = pos 0 ∷ start ∷ guards in
+    let numbers : List ℤ = pos 0 ∷ (own ++ guards) in
     let small : list_all (is_within (2 ^ 65)) guards ≡ true = flat_all has_small_rows (is_within (2 ^ 65)) (guard_bounds field) (bounds_small field) blocks e in
     let each : list_all (is_within (2 ^ 65)) numbers ≡ true =
-    both_hold (is_within (2 ^ 65) (pos 0)) (is_within (2 ^ 65) start && list_all (is_within (2 ^ 65)) guards) refl
-    (both_hold (is_within (2 ^ 65) start) (list_all (is_within (2 ^ 65)) guards) f small) in
+    both_hold (is_within (2 ^ 65) (pos 0)) (list_all (is_within (2 ^ 65)) (own ++ guards)) refl
+    (append_all (is_within (2 ^ 65)) own guards f small) in
     take_all (is_within (2 ^ 65)) MOST_BOUNDS (distinct numbers) (distinct_all (is_within (2 ^ 65)) numbers each)
 
 -- ---- candidates
@@ -179,25 +182,33 @@ bounded_fine : (field : ℕ) (bound : ℤ) → is_within (2 ^ 65) bound ≡ true
     → list_all is_expressible (bounded field bound) ≡ true
 bounded_fine field bound e = both_hold _ _ e (both_hold _ _ e refl)
 
-kind_fine : (blocks : List Block) (field : ℕ) (start : ℤ) (kind : Kind)
-    → list_all has_small_rows blocks ≡ true → is_within (2 ^ 65) start ≡ true
-    → list_all is_expressible (kind_candidates blocks field start kind) ≡ true
-kind_fine blocks field start kinds.Int e f = flat_all (is_within (2 ^ 65)) is_expressible (bounded field) (bounded_fine field) (pool blocks field start) (pool_small blocks field start e f)
-kind_fine blocks field start kinds.Bool e f = refl
+kind_fine : (blocks : List Block) (field : ℕ) (own : List ℤ) (kind : Kind)
+    → list_all has_small_rows blocks ≡ true → list_all (is_within (2 ^ 65)) own ≡ true
+    → list_all is_expressible (kind_candidates blocks field own kind) ≡ true
+kind_fine blocks field own kinds.Int e f = flat_all (is_within (2 ^ 65)) is_expressible (bounded field) (bounded_fine field) (pool blocks field own) (pool_small blocks field own e f)
+kind_fine blocks field own kinds.Bool e f = refl
 
 start_small : (value : Value) → fits_64 value ≡ true
     → is_within (2 ^ 65) (number_of_value value) ≡ true
 start_small (values.Int number) e = let both = and_parts (int_le (neg_ℤ (pos (2 ^ 63))) number) (int_lt number (pos (2 ^ 63))) e in grind (arith, ints, both.0, both.1)
 start_small (values.Bool truth) e = refl
 
-fields_fine : (blocks : List Block) (number : ℕ) (fields : List Field)
+own_small : (all : List Field) (kind : Kind) (start : Value) (origin : Origin) → fits_64 start ≡ true → HasOrigin all kind origin
+    → list_all (is_within (2 ^ 65)) (own_numbers start origin) ≡ true
+own_small all kind start origins.Own e has = both_hold (is_within (2 ^ 65) (number_of_value start)) true (start_small start e) refl
+own_small all kind start (origins.Chosen limit) e has = both_hold (is_within (2 ^ 65) (limit_number limit)) true (same_small (limit_number limit) has.1) refl
+own_small all kind start (origins.Copied parameter) e has = refl
+
+fields_fine : (all : List Field) (blocks : List Block) (number : ℕ) (fields : List Field)
     → list_all has_small_rows blocks ≡ true → All (λ field. fits_64 field.start ≡ true) fields
+    → All (λ field. HasOrigin all field.kind field.origin) fields
     → list_all is_expressible (field_candidates blocks number fields) ≡ true
-fields_fine blocks number [] e f = refl
-fields_fine blocks number (field ∷ fields) e f =
-    append_all is_expressible (kind_candidates blocks number (number_of_value field.start) field.kind) (field_candidates blocks (number + 1) fields)
-    (kind_fine blocks number (number_of_value field.start) field.kind e (start_small field.start (f zero field (omega arith))))
-    (fields_fine blocks (number + 1) fields e (λ k d l. f (suc k) d (omega arith)))
+fields_fine all blocks number [] e f has = refl
+fields_fine all blocks number (field ∷ fields) e f has =
+    append_all is_expressible (kind_candidates blocks number (own_numbers field.start field.origin) field.kind) (field_candidates blocks (number + 1) fields)
+    (kind_fine blocks number (own_numbers field.start field.origin) field.kind e
+    (own_small all field.kind field.start field.origin (f zero field (omega arith)) (has zero field (omega arith))))
+    (fields_fine all blocks (number + 1) fields e (λ k d l. f (suc k) d (omega arith)) (λ k d l. has (suc k) d (omega arith)))
 
 other_side : (left right : ℕ) → not (right == left) ≡ true → not (left == right) ≡ true
 other_side left right e = grind arith
@@ -220,5 +231,5 @@ pub candidates_fine : (monitor : MonitorParts) → IsMonitor monitor
     → list_all is_expressible (candidates_of monitor) ≡ true
 candidates_fine monitor rule starts =
     append_all is_expressible (field_candidates monitor.blocks 0 monitor.fields) (pair_candidates (int_fields 0 monitor.fields))
-    (fields_fine monitor.blocks 0 monitor.fields (blocks_small monitor rule) starts)
+    (fields_fine monitor.fields monitor.blocks 0 monitor.fields (blocks_small monitor rule) starts rule.origins)
     (pairs_fine (int_fields 0 monitor.fields) (int_fields 0 monitor.fields))

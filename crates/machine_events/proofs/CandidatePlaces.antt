@@ -11,8 +11,7 @@ use Rattle.lang_monitor.specs.declared.candidate.Candidate.TheVariants as candid
 use Rattle.lang_monitor.specs.declared.monitor.Field.{Field}
 use Rattle.lang_monitor.specs.declared.monitor.Block.{Block}
 use Rattle.lang_monitor.specs.MonitorParts.{MonitorParts}
-use Rattle.lang_monitor.specs.Bodies.{number_of_value}
-use Rattle.lang_monitor.specs.Candidates.{pool, kind_candidates, field_candidates, int_number, int_fields, pair_candidates, candidates_of}
+use Rattle.lang_monitor.specs.Candidates.{pool, kind_candidates, field_candidates, int_number, int_fields, pair_candidates, candidates_of, own_numbers}
 use Rattle.machine_events.specs.Plans.{AreSomeOf}
 
 -- a candidate about the first fields, so many
@@ -51,18 +50,18 @@ bounds_low fields field low (number ∷ numbers) =
     (one_more fields (candidates.AtLeast field number) rest low (bounds_low fields field low numbers))
 
 kind_low : (fields field : ℕ) → nat_lt field fields ≡ true
-    → (blocks : List Block) (start : ℤ) (kind : Kind)
-    → AreLow fields (kind_candidates blocks field start kind)
-kind_low fields field low blocks start kinds.Int = bounds_low fields field low (pool blocks field start)
-kind_low fields field low blocks start kinds.Bool =
+    → (blocks : List Block) (own : List ℤ) (kind : Kind)
+    → AreLow fields (kind_candidates blocks field own kind)
+kind_low fields field low blocks own kinds.Int = bounds_low fields field low (pool blocks field own)
+kind_low fields field low blocks own kinds.Bool =
     one_more fields (candidates.Flag field true) (candidates.Flag field false ∷ []) low (one_more fields (candidates.Flag field false) [] low (no_candidate fields))
 
 fields_low : (count number : ℕ) (fields : List Field) (blocks : List Block)
     → number + length fields ≡ count → AreLow count (field_candidates blocks number fields)
 fields_low count number [] blocks same = no_candidate count
 fields_low count number (field ∷ fields) blocks same =
-    both_low count (kind_candidates blocks number (number_of_value field.start) field.kind) (field_candidates blocks (number + 1) fields)
-    (kind_low count number (lt-ltb number count (omega arith)) blocks (number_of_value field.start) field.kind)
+    both_low count (kind_candidates blocks number (own_numbers field.start field.origin) field.kind) (field_candidates blocks (number + 1) fields)
+    (kind_low count number (lt-ltb number count (omega arith)) blocks (own_numbers field.start field.origin) field.kind)
     (fields_low count (number + 1) fields blocks (omega arith))
 
 -- ---- of pairs of fields

@@ -15,7 +15,7 @@ use Rattle.machine_events.specs.declared.plan.Note.{Note}
 use Rattle.machine_events.specs.declared.plan.Plan.{Plan}
 use Rattle.lang_monitor.specs.Inputs.{reads_inputs}
 use Rattle.lang_monitor.specs.Candidates.{candidate_truth}
-use Rattle.lang_monitor.specs.Triples.{Keeps, start_of}
+use Rattle.lang_monitor.specs.Triples.{Keeps}
 use Rattle.machine_events.specs.Rising.{AreRising}
 use Rattle.machine_events.proofs.Facing.{at_index}
 use Rattle.machine_events.specs.Plans.{has_note, FitsNote, FitsNotes, FitsPlan, IsUntestedBroadcast, IsLawful, broadcasts_from, everyone}
@@ -144,7 +144,7 @@ everyone_fits monitor = record {
 pub everyone_lawful : (monitor : MonitorParts) → IsLawful monitor (everyone monitor)
 everyone_lawful monitor = record {
   inductive = record {
-    starts = All-nil (λ (candidate : Candidate). candidate_truth (start_of monitor) candidate ≡ true);
+    starts = λ start is. All-nil (λ (candidate : Candidate). candidate_truth start candidate ≡ true);
     keeps = λ block within. All-nil (λ (candidate : Candidate). Keeps monitor [] candidate block);
   };
   noted = λ number condition within numbered last none.

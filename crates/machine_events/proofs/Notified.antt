@@ -14,7 +14,7 @@ use Rattle.lang_monitor.specs.Bodies.{Inputs, valuation, after}
 use Rattle.machine_implicit.specs.declared.commit.Reply.{Reply}
 use Rattle.machine_implicit.specs.declared.script.Call.{Call}
 use Rattle.machine_implicit.specs.declared.commit.Reply.TheVariants as replies
-use Rattle.machine_implicit.specs.Steps.{condition_truth}
+use Rattle.machine_implicit.specs.Steps.{condition_truth, start_of}
 use Rattle.machine_implicit.specs.declared.place.Place.{Place}
 use Rattle.machine_implicit.specs.Places.{block_at, inputs_at}
 use Rattle.machine_implicit.specs.Runs.{start_at}
@@ -421,7 +421,7 @@ event_keeps_covered system set (events.Spurious client) before next sound covere
 
 pub start_is_covered : (system : System) → HasCountingPlan system → IsCovered system (initial system)
 start_is_covered system set = record {
-  invariant = set.lawful.inductive.starts;
+  invariant = set.lawful.inductive.starts (start_of system.monitor) set.is.rule.opens;
   pending = record {
     broadcasts = λ client place condition at kind holds. absurd (cc (some_idle (start_at system.monitor system.clients).places client place (Waiting condition) at).1);
     signals = λ client place condition at kind measure counts. absurd (cc (some_idle (start_at system.monitor system.clients).places client place (Waiting condition) at).1);

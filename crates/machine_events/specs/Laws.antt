@@ -6,7 +6,8 @@ use Rattle.lang_monitor.specs.declared.candidate.Candidate.{Candidate}
 use Rattle.lang_monitor.specs.declared.monitor.Block.{Block}
 use Rattle.lang_monitor.specs.declared.monitor.Condition.{Condition}
 use Rattle.lang_monitor.specs.MonitorParts.{MonitorParts, Places, AreOfKinds, fits_block}
-use Rattle.lang_monitor.specs.MonitorParts.{asserts_in}
+use Rattle.lang_monitor.specs.MonitorParts.{IsMonitor, asserts_in, opened_with}
+use Rattle.lang_monitor.specs.Starts.{IsStart}
 use Rattle.lang_monitor.specs.Bodies.{Inputs, valuation, after}
 use Rattle.lang_monitor.specs.Candidates.{AllHold, candidates_of}
 use Rattle.lang_monitor.specs.Triples.{Keeps, NoneNeeded, OneEnough, NoTestNeeded}
@@ -147,6 +148,41 @@ EveryoneFits = (monitor : MonitorParts) → FitsPlan monitor (everyone monitor)
 
 abbrev pub EveryoneIsLawful : Type 0
 EveryoneIsLawful = (monitor : MonitorParts) → IsLawful monitor (everyone monitor)
+
+-- ---- whatever a monitor is opened with
+
+-- the system whose monitor is opened with these values
+abbrev pub opened_system : System → List Value → System
+opened_system system start = record {
+  monitor = opened_with system.monitor start;
+  plan = system.plan;
+  clients = system.clients;
+}
+
+-- a system stays one
+abbrev pub SystemsOfEveryChoice : Type 0
+SystemsOfEveryChoice =
+    (system : System) (start : List Value) → IsStart system.monitor.fields start
+    → IsSystem system → IsSystem (opened_system system start)
+
+-- a plan that fits the monitor fits it as it is opened
+abbrev pub FitsForEveryChoice : Type 0
+FitsForEveryChoice =
+    (monitor : MonitorParts) (plan : Plan) (start : List Value) → IsStart monitor.fields start
+    → FitsPlan monitor plan → FitsPlan (opened_with monitor start) plan
+
+-- one that is lawful for the monitor is so for it as it is opened
+abbrev pub LawfulForEveryChoice : Type 0
+LawfulForEveryChoice =
+    (monitor : MonitorParts) (plan : Plan) (start : List Value) → IsStart monitor.fields start
+    → IsLawful monitor plan → IsLawful (opened_with monitor start) plan
+
+-- and one that is lawful by counting
+abbrev pub CountingForEveryChoice : Type 0
+CountingForEveryChoice =
+    (monitor : MonitorParts) (plan : Plan) (start : List Value) → IsMonitor monitor
+    → IsStart monitor.fields start
+    → IsLawfulByCounting monitor plan → IsLawfulByCounting (opened_with monitor start) plan
 
 -- ---- bodies and triples in states
 

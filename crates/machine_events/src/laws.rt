@@ -6,6 +6,8 @@ ghost use Rattle.machine_events.specs.Laws.{CountedClosedIsTheEnd, CountedEvents
 ghost use Rattle.machine_events.specs.Laws.{LawfulIsByCounting};
 ghost use Rattle.machine_events.specs.CountClaims.{CountingApplies, GuardsCount};
 ghost use Rattle.machine_events.specs.Laws.{EventsKeepSound, EventsKeepCovered};
+ghost use Rattle.machine_events.specs.Laws.{CountingForEveryChoice, FitsForEveryChoice};
+ghost use Rattle.machine_events.specs.Laws.{LawfulForEveryChoice, SystemsOfEveryChoice};
 ghost use Rattle.machine_events.specs.Laws.{EveryoneFits, EveryoneIsLawful, BodiesKeepKinds};
 ghost use Rattle.machine_events.specs.Laws.{KeptApplies, NoneNeededApplies, OneEnoughApplies};
 ghost use Rattle.machine_events.specs.Laws.{NoTestApplies, LegalLogsRun, ClosedIsTheEnd};
@@ -64,6 +66,15 @@ pub fn log_is_bounded()
 pub fn everyone_is_lawful()
     ensures fits { EveryoneFits }
     ensures lawful { EveryoneIsLawful }
+{}
+
+/// Whatever a monitor is opened with, a plan that fits it fits it as opened, and one that is lawful
+/// for it is so: what is said of systems holds of the system whose monitor is opened so.
+pub fn lawful_for_every_choice()
+    ensures systems { SystemsOfEveryChoice }
+    ensures fits { FitsForEveryChoice }
+    ensures lawful { LawfulForEveryChoice }
+    ensures counting { CountingForEveryChoice }
 {}
 
 /// After a body that fits, the fields and the locals have values of their kinds, over whole numbers

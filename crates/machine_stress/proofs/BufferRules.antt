@@ -25,7 +25,7 @@ use Rattle.lang_monitor.specs.declared.monitor.Condition.{Condition}
 use Rattle.lang_monitor.specs.Bodies.{no_inputs, valuation}
 use Rattle.lang_monitor.specs.Conditions.{HasCondition, HasFirstBlock, IsDescribed}
 use Rattle.lang_monitor.specs.Inputs.{reads_inputs, reads_step, reads_term}
-use Rattle.lang_monitor.specs.MonitorParts.{IsBlockOf, IsMethod, IsMonitor, IsOfKind, IsOwned, Places, fits_block, fits_form, fits_formula, fits_formula_step, fits_put, fits_statement, parts}
+use Rattle.lang_monitor.specs.MonitorParts.{HasOrigin, IsBlockOf, IsMethod, IsMonitor, IsOfKind, IsOwned, Places, fits_block, fits_form, fits_formula, fits_formula_step, fits_put, fits_statement, parts}
 use Rattle.lang_monitor.proofs.Statements.{put_part}
 use Rattle.machine_stress.specs.LargeInput.{buffer_of, count_and, count_field, counting_block, has_room, has_some, less_count, plain_method, room_shown, shown_condition, some_shown}
 use Rattle.machine_stress.proofs.Buffers.{holding, room_needed, some_true}
@@ -179,6 +179,9 @@ blocks_owned capacity (suc (suc number)) block is = absurd (none-some block is)
 abbrev StartsRight : Field → Type 0
 StartsRight field = IsOfKind field.kind field.start
 
+abbrev StartsOwn : Field → Type 0
+StartsOwn field = HasOrigin (count_field ∷ []) field.kind field.origin
+
 buffer_rule : (capacity : ℕ) → capacity ≤ 7 → IsMonitor (buffer_of capacity)
 buffer_rule capacity few =
     let put = counting_block 0 (has_room capacity) (count_and (pos 1)) in
@@ -195,6 +198,8 @@ buffer_rule capacity few =
           (All-cons IsIdentifier (codes "put") (codes "get" ∷ []) named_put (All-cons IsIdentifier (codes "get") [] named_get (All-nil IsIdentifier)));
       distinct = distinct_names;
       starts = All-cons StartsRight count_field [] tt (All-nil StartsRight);
+      origins = All-cons StartsOwn count_field [] tt (All-nil StartsOwn);
+      opens = (refl, tt);
       methods = methods_fit capacity few;
       in_turn = (refl, (refl, refl));
       owned = blocks_owned capacity;

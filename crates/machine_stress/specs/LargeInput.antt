@@ -10,6 +10,7 @@ use Rattle.logic_linear.specs.declared.formula.Formula.TheVariants as formulas
 use Rattle.logic_linear.specs.declared.substitution.Put.TheVariants as puts
 use Rattle.lang_monitor.specs.declared.monitor.Field.{Field}
 use Rattle.lang_monitor.specs.declared.monitor.Method.{Method}
+use Rattle.lang_monitor.specs.declared.start.Origin.TheVariants as origins
 use Rattle.lang_monitor.specs.declared.monitor.Stmt.TheVariants as statements
 use Rattle.lang_monitor.specs.declared.monitor.Ret.TheVariants as results
 use Rattle.lang_monitor.specs.declared.monitor.Block.{Block}
@@ -81,7 +82,12 @@ abbrev pub some_shown : List ℕ
 some_shown = codes "count > 0"
 
 abbrev pub count_field : Field
-count_field = record { name = codes "count"; kind = kinds.Int; start = values.Int (pos 0) }
+count_field = record {
+  name = codes "count";
+  kind = kinds.Int;
+  start = values.Int (pos 0);
+  origin = origins.Own;
+}
 
 -- a method of no inputs and no locals, and its block, which waits on the condition of its guard
 abbrev pub plain_method : List ℕ → ℕ → Method

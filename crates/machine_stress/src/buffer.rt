@@ -11,7 +11,7 @@ ghost use Rattle.machine_stress.specs.LargeInput.{MOST_ROOM};
 
 use base_list::Seq;
 use lang_base::{Kind, Name, Value};
-use lang_monitor::{Block, Condition, Field, Method, Monitor, Ret, Stmt};
+use lang_monitor::{Block, Condition, Field, Method, Monitor, Origin, Ret, Stmt};
 use logic_linear::{Formula, Lin, Put, Term};
 use std::alloc::{AllocError, Global};
 
@@ -50,6 +50,7 @@ fn fields(alloc: Global) -> Result<Vec<Field>, AllocError>
         name: name_of(alloc, b"count")?,
         kind: Kind::Int,
         start: Value::Int(0),
+        origin: Origin::Own,
     };
     Ok(vec![in alloc; count]?)
 }

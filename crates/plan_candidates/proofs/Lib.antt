@@ -1,4 +1,7 @@
 mod ListSteps
 mod PoolNumbers
 pub mod SomeOf
+mod StartChoices
+mod StartRanges
+mod StartTests
 mod StartTruths

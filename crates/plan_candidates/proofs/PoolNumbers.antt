@@ -57,12 +57,12 @@ pub any_put : (field : ℕ) (before after : List ℤ) (formula : Formula) (parts
 any_put field before after formula parts items is same made =
     made ∙ ap (λ (some : List ℤ). before ++ some) (ap (flat_map (formula_numbers field)) same ∙ sym (any_made field parts) ∙ ap (formula_numbers field) (sym is))
 
--- 0, a number and those of guards, with one more block
-pub guards_more : (field : ℕ) (start : ℤ) (before after : List ℤ) (blocks : List Block) (i : ℕ) (block : Block) → i < length blocks → block ≡ get_or blocks i block
-    → before ≡ pos 0 ∷ start ∷ flat_map (guard_bounds field) (take i blocks) → after ≡ before ++ formula_numbers field block.guard
-    → after ≡ pos 0 ∷ start ∷ flat_map (guard_bounds field) (take (i + 1) blocks)
-guards_more field start before after blocks i block low at is made =
-    one_more (guard_bounds field) (pos 0 ∷ start ∷ []) before after blocks i block low is
+-- 0, some numbers and those of guards, with one more block
+pub guards_more : (field : ℕ) (own : List ℤ) (before after : List ℤ) (blocks : List Block) (i : ℕ) (block : Block) → i < length blocks → block ≡ get_or blocks i block
+    → before ≡ pos 0 ∷ own ++ flat_map (guard_bounds field) (take i blocks) → after ≡ before ++ formula_numbers field block.guard
+    → after ≡ pos 0 ∷ own ++ flat_map (guard_bounds field) (take (i + 1) blocks)
+guards_more field own before after blocks i block low at is made =
+    one_more (guard_bounds field) (pos 0 ∷ own) before after blocks i block low is
     (made ∙ ap (λ (some : List ℤ). before ++ some) (sym (guard_made field block) ∙ ap (guard_bounds field) at))
 
 -- ---- the pool
@@ -154,7 +154,7 @@ noted numbers before after i number low at is made =
     ∙ pool_push (take i numbers) number
     ∙ ap (λ (some : List ℤ). take MOST_BOUNDS (distinct some)) (ap (λ (one : ℤ). take i numbers ++ one ∷ []) at ∙ sym (take_more numbers i (pos 0) low))
 
-pub all_noted : (blocks : List Block) (field : ℕ) (start passed : ℤ) (numbers gathered made : List ℤ) (i : ℕ) → length numbers ≤ i → numbers ≡ gathered
-    → gathered ≡ pos 0 ∷ passed ∷ flat_map (guard_bounds field) blocks → made ≡ take MOST_BOUNDS (distinct (take i numbers)) → passed ≡ start → made ≡ pool blocks field start
-all_noted blocks field start passed numbers gathered made i long same are is begins =
-    is ∙ ap (λ (some : List ℤ). take MOST_BOUNDS (distinct some)) (take_all i numbers long ∙ same ∙ are ∙ ap (λ (one : ℤ). pos 0 ∷ one ∷ flat_map (guard_bounds field) blocks) begins)
+pub all_noted : (blocks : List Block) (field : ℕ) (own numbers gathered made : List ℤ) (i : ℕ) → length numbers ≤ i → numbers ≡ gathered
+    → gathered ≡ pos 0 ∷ own ++ flat_map (guard_bounds field) blocks → made ≡ take MOST_BOUNDS (distinct (take i numbers)) → made ≡ pool blocks field own
+all_noted blocks field own numbers gathered made i long same are is =
+    is ∙ ap (λ (some : List ℤ). take MOST_BOUNDS (distinct some)) (take_all i numbers long ∙ same ∙ are)

@@ -14,7 +14,7 @@ use Rattle.lang_monitor.specs.declared.candidate.Candidate.TheVariants as candid
 use Rattle.lang_monitor.specs.Bodies.{no_inputs, number_of_value, truth_of_value, valuation, value_at}
 use Rattle.lang_monitor.specs.Candidates.{candidate_truth, once, opposite}
 
-abbrev number_in : List Value → ℕ → ℤ
+abbrev pub number_in : List Value → ℕ → ℤ
 number_in state field = number_of_value (value_at state no_inputs field)
 
 row_truth : (v : Valuation) (form : Linear)
@@ -31,15 +31,15 @@ less a b = grind (arith, ints)
 more : (a b : ℤ) → int_le (neg_ℤ (pos 1) *ℤ a +ℤ pos 0 +ℤ b) (pos 0) ≡ int_le b a
 more a b = grind (arith, ints)
 
-at_most_truth : (state : List Value) (field : ℕ) (bound : ℤ)
+pub at_most_truth : (state : List Value) (field : ℕ) (bound : ℤ)
     → candidate_truth state (candidates.AtMost field bound) ≡ int_le (number_in state field) bound
 at_most_truth state field bound = row_truth (valuation state no_inputs) _ ∙ less (number_in state field) bound
 
-at_least_truth : (state : List Value) (field : ℕ) (bound : ℤ)
+pub at_least_truth : (state : List Value) (field : ℕ) (bound : ℤ)
     → candidate_truth state (candidates.AtLeast field bound) ≡ int_le bound (number_in state field)
 at_least_truth state field bound = row_truth (valuation state no_inputs) _ ∙ more (number_in state field) bound
 
-flag_truth_is : (state : List Value) (field : ℕ) (is : Bool)
+pub flag_truth_is : (state : List Value) (field : ℕ) (is : Bool)
     → candidate_truth state (candidates.Flag field is)
     ≡ cond is (truth_of_value (value_at state no_inputs field))
     (not (truth_of_value (value_at state no_inputs field)))
@@ -53,7 +53,7 @@ right_first : (a b : ℤ) → int_le (neg_ℤ (pos 1) *ℤ b +ℤ (pos 1 *ℤ a 
     ≡ int_le a b
 right_first a b = grind (arith, ints)
 
-below_truth : (state : List Value) (left right : ℕ)
+pub below_truth : (state : List Value) (left right : ℕ)
     → candidate_truth state (candidates.Below left right)
     ≡ int_le (number_in state left) (number_in state right)
 below_truth state left right = row_truth (valuation state no_inputs) _ ∙ by_order (nat_lt left right)
@@ -69,18 +69,6 @@ below_truth state left right = row_truth (valuation state no_inputs) _ ∙ by_or
 
 -- ---- what the code tests
 
-pub at_most_is : (state : List Value) (candidate : Candidate) (field : ℕ) (bound number : ℤ)
-    → candidate ≡ candidates.AtMost field bound
-    → number ≡ number_in state field → int_le number bound ≡ candidate_truth state candidate
-at_most_is state candidate field bound number is same =
-    ap (λ n. int_le n bound) same ∙ sym (at_most_truth state field bound) ∙ ap (candidate_truth state) (sym is)
-
-pub at_least_is : (state : List Value) (candidate : Candidate) (field : ℕ) (bound number : ℤ)
-    → candidate ≡ candidates.AtLeast field bound
-    → number ≡ number_in state field → int_le bound number ≡ candidate_truth state candidate
-at_least_is state candidate field bound number is same =
-    ap (int_le bound) same ∙ sym (at_least_truth state field bound) ∙ ap (candidate_truth state) (sym is)
-
 same_as : (truth is : Bool) → beq truth is ≡ cond is truth (not truth)
 same_as true true = refl
 same_as true false = refl
@@ -93,10 +81,3 @@ pub flag_is : (state : List Value) (candidate : Candidate) (field : ℕ) (wanted
     → beq truth wanted ≡ candidate_truth state candidate
 flag_is state candidate field wanted truth is same =
     ap (λ t. beq t wanted) same ∙ same_as (truth_of_value (value_at state no_inputs field)) wanted ∙ sym (flag_truth_is state field wanted) ∙ ap (candidate_truth state) (sym is)
-
-pub below_is : (state : List Value) (candidate : Candidate) (left right : ℕ) (one other : ℤ)
-    → candidate ≡ candidates.Below left right
-    → one ≡ number_in state left → other ≡ number_in state right
-    → int_le one other ≡ candidate_truth state candidate
-below_is state candidate left right one other is first second =
-    ap (λ n. int_le n other) first ∙ ap (int_le (number_in state left)) second ∙ sym (below_truth state left right) ∙ ap (candidate_truth state) (sym is)

@@ -5,10 +5,12 @@ ghost use Rattle.std.specs.List.{flat_map};
 ghost use Rattle.std.specs.Option.{option_to_list};
 ghost use Rattle.lang_base.specs.Numbers.{is_within};
 ghost use Rattle.logic_linear.specs.Linear.{FORM_BOUND};
-ghost use Rattle.lang_monitor.specs.Candidates.{around, bound_of, guard_bounds};
+ghost use Rattle.lang_monitor.specs.Candidates.{around, bound_of, guard_bounds, own_numbers};
 ghost use Rattle.plan_candidates.specs.inner.Numbers.{bound_of_term, formula_numbers, row_numbers};
 
-use lang_monitor::Block;
+use super::listing::number_of;
+use super::ranges::number_in;
+use lang_monitor::{Block, Field, Origin};
 use logic_linear::{Formula, Lin, Term};
 use std::alloc::{AllocError, Global};
 
@@ -87,20 +89,40 @@ fn push_of_parts(numbers: &mut Vec<i128>, field: u32, parts: &[Formula]) -> Resu
     Ok(())
 }
 
-/// 0, the number at the start, and the numbers with which guards compare the field, blocks in
-/// order.
+/// Appends what is known of the number at the start.
+fn push_own(numbers: &mut Vec<i128>, field: &Field) -> Result<(), AllocError>
+    ensures { OnOk result (numbers.new.items
+        ≡ numbers.old.items ++ own_numbers field.now.start field.now.origin) }
+{
+    match field.origin {
+        Origin::Own => {
+            numbers.push(number_of(field.start))?;
+            Ok(())
+        }
+        Origin::Chosen(limit) => {
+            numbers.push(number_in(limit))?;
+            Ok(())
+        }
+        Origin::Copied(_) => Ok(()),
+    }
+}
+
+/// 0, what is known of the number at the start, and the numbers with which guards compare the
+/// field, blocks in order.
 pub(crate) fn numbers_of(
     alloc: Global,
     blocks: &[Block],
-    field: u32,
-    start: i128,
+    number: u32,
+    field: &Field,
 ) -> Result<Vec<i128>, AllocError>
     ensures { IfOk result (λ numbers. numbers.items
-        ≡ pos 0 ∷ start ∷ flat_map (guard_bounds field) blocks.now) }
+        ≡ pos 0 ∷ own_numbers field.now.start field.now.origin
+        ++ flat_map (guard_bounds number) blocks.now) }
 {
-    let mut numbers = Vec::from_array(alloc, [0, start])?;
+    let mut numbers = Vec::from_array(alloc, [0])?;
+    push_own(&mut numbers, field)?;
     for block in blocks {
-        push_of_formula(&mut numbers, field, &block.guard)?;
+        push_of_formula(&mut numbers, number, &block.guard)?;
     }
     Ok(numbers)
 }

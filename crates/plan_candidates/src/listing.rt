@@ -8,7 +8,7 @@ ghost use Rattle.lang_monitor.specs.declared.candidate.Candidate.TheVariants.{Be
 ghost use Rattle.lang_monitor.specs.Bodies.{number_of_value};
 ghost use Rattle.lang_monitor.specs.Candidates.{bounded, candidates_of, field_candidates};
 ghost use Rattle.lang_monitor.specs.Candidates.{int_fields, int_number, kind_candidates};
-ghost use Rattle.lang_monitor.specs.Candidates.{pair_candidates};
+ghost use Rattle.lang_monitor.specs.Candidates.{own_numbers, pair_candidates};
 
 use super::pool::pool;
 use lang_base::{Kind, Value};
@@ -66,12 +66,13 @@ fn push_of_field(
     field: &Field,
 ) -> Result<(), AllocError>
     ensures { OnOk result (candidates.new.items ≡ candidates.old.items
-        ++ kind_candidates blocks.now number (number_of_value field.now.start) field.now.kind) }
+        ++ kind_candidates blocks.now number (own_numbers field.now.start field.now.origin)
+        field.now.kind) }
 {
     match field.kind {
         Kind::Bool => Ok(push_truths(candidates, number)?),
         Kind::Int => {
-            let bounds = pool(alloc, blocks, number, number_of(field.start))?;
+            let bounds = pool(alloc, blocks, number, field)?;
             Ok(push_bounded(candidates, number, &bounds)?)
         }
     }
@@ -156,8 +157,9 @@ fn push_pairs(candidates: &mut Vec<Candidate>, fields: &[u32]) -> Result<(), All
 /// The candidates of a monitor (`specs/Candidates` of `lang_monitor`): for each int field in order
 /// that it is at most, and at least, each of its numbers, for each bool field that it is true, and
 /// that it is false, and then for each ordered pair of int fields that the one is at most the
-/// other. The numbers of a field are 0, the one at its start, and those around each bound that a
-/// guard's row sets on the field alone; the first 12 that differ are taken. It fails only for want
+/// other. The numbers of a field are 0, the one at its start, or the bound of its limit where it is
+/// chosen and none where it is copied, and those around each bound that a guard's row sets on the
+/// field alone; the first 12 that differ are taken. It fails only for want
 /// of memory.
 pub fn candidates(alloc: Global, monitor: &Monitor) -> Result<Vec<Candidate>, AllocError>
     ensures { IfOk result (λ made. made.items ≡ candidates_of monitor.now) }

@@ -1,18 +1,19 @@
 //! What is true at the start.
 
-ghost use Rattle.std.specs.Prelude.{◌≡◌, ◌≤◌, ◌∷◌, ◌++◌, ◌↔◌, true, [], All, IfOk, IsTrue, OnOk};
-ghost use Rattle.std.specs.Prelude.{length};
+ghost use Rattle.std.specs.Prelude.{◌≡◌, ◌≤◌, ◌∷◌, ◌++◌, ◌↔◌, true, false, [], All, IfOk, IsTrue};
+ghost use Rattle.std.specs.Prelude.{OnOk, length};
 ghost use Rattle.std.specs.Prelude.{if◌then◌else◌};
 ghost use Rattle.std.specs.List.{filter, list_all};
 ghost use Rattle.lang_base.specs.Limits.{FIELDS};
-ghost use Rattle.lang_monitor.specs.Bodies.{fits_64, no_inputs, number_of_value, truth_of_value};
-ghost use Rattle.lang_monitor.specs.Bodies.{value_at};
-ghost use Rattle.lang_monitor.specs.Candidates.{AllHold, candidate_truth, candidates_of};
-ghost use Rattle.lang_monitor.specs.MonitorParts.{start_of};
+ghost use Rattle.lang_monitor.specs.Bodies.{fits_64, no_inputs, truth_of_value, value_at};
+ghost use Rattle.lang_monitor.specs.Candidates.{candidates_of};
+ghost use Rattle.lang_monitor.specs.Triples.{HoldAtStart, IsFalseAtStart, IsTrueAtStart};
 ghost use Rattle.logic_wp.specs.Expressible.{is_expressible};
-ghost use Rattle.plan_candidates.specs.inner.Starts.{starts};
+ghost use Rattle.plan_candidates.specs.TrueAtStart.{AreTrueAtStart};
+ghost use Rattle.plan_candidates.specs.inner.Starts.{starts, starts_below, starts_true};
 
-use super::listing::{candidates, number_of};
+use super::listing::candidates;
+use super::ranges::{least_at, most_at, root_at};
 use lang_base::Value;
 use lang_monitor::{Candidate, Field, Monitor};
 use logic_wp::candidates_are_expressible;
@@ -39,7 +40,7 @@ pub fn read_starts(fields: &[Field])
     }
 }
 
-/// The value of a field at the start. A field that is not there has 0.
+/// The value of a field where nothing is chosen. A field that is not there has 0.
 fn start_at(fields: &[Field], field: u32) -> Value
     requires { length fields.now ≤ FIELDS }
     ensures { result ≡ value_at (starts fields.now) no_inputs field }
@@ -48,13 +49,6 @@ fn start_at(fields: &[Field], field: u32) -> Value
         None => Value::Int(0),
         Some(found) => found.start,
     }
-}
-
-fn start_number(fields: &[Field], field: u32) -> i128
-    requires { length fields.now ≤ FIELDS }
-    ensures { result ≡ number_of_value (value_at (starts fields.now) no_inputs field) }
-{
-    number_of(start_at(fields, field))
 }
 
 fn start_truth(fields: &[Field], field: u32) -> bool
@@ -67,36 +61,55 @@ fn start_truth(fields: &[Field], field: u32) -> bool
     }
 }
 
-/// Whether the candidate is true at the start.
-fn is_true_at_start(fields: &[Field], candidate: Candidate) -> bool
+/// Whether the left field starts with no more than the right one.
+fn starts_below(fields: &[Field], left: u32, right: u32) -> bool
+    ensures { result ≡ starts_below fields.now left right }
+{
+    if root_at(fields, left) == root_at(fields, right) {
+        return true;
+    }
+    most_at(fields, left) <= least_at(fields, right)
+}
+
+/// Whether the candidate is true with all values with which the fields may start.
+fn starts_true(fields: &[Field], candidate: Candidate) -> bool
     requires { length fields.now ≤ FIELDS }
-    ensures { result ≡ candidate_truth (starts fields.now) candidate }
+    ensures { result ≡ starts_true fields.now candidate }
 {
     match candidate {
-        Candidate::AtMost { field, bound } => start_number(fields, field) <= bound,
-        Candidate::AtLeast { field, bound } => start_number(fields, field) >= bound,
+        Candidate::AtMost { field, bound } => most_at(fields, field) <= bound,
+        Candidate::AtLeast { field, bound } => least_at(fields, field) >= bound,
         Candidate::Flag { field, is } => start_truth(fields, field) == is,
-        Candidate::Below { left, right } => {
-            start_number(fields, left) <= start_number(fields, right)
-        }
+        Candidate::Below { left, right } => starts_below(fields, left, right),
     }
 }
 
-/// Whether each of the candidates is true at the start.
-fn all_true_at_start(fields: &[Field], candidates: &[Candidate]) -> bool
+/// Whether the candidate is true at the start, whatever the monitor is opened with. It takes no
+/// memory.
+pub fn is_true_at_start(monitor: &Monitor, candidate: Candidate) -> bool
+    ensures always { IsTrue result ↔ IsTrueAtStart monitor.now candidate }
+    ensures fails { result ≡ false → IsFalseAtStart monitor.now candidate }
+{
+    starts_true(monitor.fields(), candidate)
+}
+
+/// Whether each of the candidates passes the test.
+fn all_start_true(fields: &[Field], candidates: &[Candidate]) -> bool
     requires { length fields.now ≤ FIELDS }
-    ensures { IsTrue result ↔ AllHold (starts fields.now) candidates.now }
+    ensures { IsTrue result ↔ All (λ candidate. starts_true fields.now candidate ≡ true)
+        candidates.now }
 {
     candidates
         .iter()
-        .all(|candidate| is_true_at_start(fields, *candidate))
+        .all(|candidate| starts_true(fields, *candidate))
 }
 
-/// Whether each of the candidates is true at the monitor's start. It takes no memory.
+/// Whether each of the candidates is true at the start, whatever the monitor is opened with. It
+/// takes no memory.
 pub fn are_true_at_start(monitor: &Monitor, candidates: &[Candidate]) -> bool
-    ensures { IsTrue result ↔ AllHold (start_of monitor.now) candidates.now }
+    ensures { IsTrue result ↔ HoldAtStart monitor.now candidates.now }
 {
-    all_true_at_start(monitor.fields(), candidates)
+    all_start_true(monitor.fields(), candidates)
 }
 
 /// Each candidate of a monitor has a formula: the numbers of its fields at the start fit 64 bits,
@@ -119,16 +132,25 @@ fn push_if(kept: &mut Vec<Candidate>, candidate: Candidate, is_true: bool) -> Re
     Ok(())
 }
 
-/// The candidates that are true at the start.
-pub fn true_at_start(alloc: Global, monitor: &Monitor) -> Result<Vec<Candidate>, AllocError>
-    ensures { IfOk result (λ kept. kept.items
-        ≡ filter (candidate_truth (start_of monitor.now)) (candidates_of monitor.now)) }
+/// Those of the candidates that pass the test.
+fn passing(alloc: Global, fields: &[Field], all: &[Candidate]) -> Result<Vec<Candidate>, AllocError>
+    requires { length fields.now ≤ FIELDS }
+    ensures { IfOk result (λ kept. kept.items ≡ filter (starts_true fields.now) all.now) }
 {
-    let all = candidates(alloc, monitor)?;
     let mut kept = Vec::new(alloc);
-    for candidate in &all {
-        let is_true = is_true_at_start(monitor.fields(), *candidate);
+    for candidate in all {
+        let is_true = starts_true(fields, *candidate);
         push_if(&mut kept, *candidate, is_true)?;
     }
+    Ok(kept)
+}
+
+/// The candidates that are true at the start, whatever the monitor is opened with.
+pub fn true_at_start(alloc: Global, monitor: &Monitor) -> Result<Vec<Candidate>, AllocError>
+    ensures { IfOk result
+        (λ kept. AreTrueAtStart monitor.now (candidates_of monitor.now) kept.items) }
+{
+    let all = candidates(alloc, monitor)?;
+    let kept = passing(alloc, monitor.fields(), &all)?;
     Ok(kept)
 }

@@ -22,7 +22,7 @@ use Rattle.lang_monitor.specs.declared.monitor.Block.{Block}
 use Rattle.lang_monitor.specs.declared.monitor.Field.{Field}
 use Rattle.lang_monitor.specs.MonitorParts.{MonitorParts, is_kind, kinds_of}
 use Rattle.lang_monitor.specs.Bodies.{no_inputs, number_of_value, truth_of_value, valuation, value_at, values_from}
-use Rattle.lang_monitor.specs.Candidates.{AllHold, candidate_formula, candidate_truth, candidates_of, difference_terms, field_candidates, int_fields, int_number, kind_candidates, once, opposite, pair_candidates, pool}
+use Rattle.lang_monitor.specs.Candidates.{AllHold, candidate_formula, candidate_truth, candidates_of, difference_terms, field_candidates, int_fields, int_number, kind_candidates, once, opposite, own_numbers, pair_candidates, pool}
 use Rattle.machine_events.specs.Plans.{AreSomeOf}
 use Rattle.plan_fits.proofs.ReadValues.{slot_flag, slot_number}
 
@@ -61,9 +61,9 @@ bounds_about some field is (number ∷ numbers) =
     one_about some (candidates.AtMost field number) (candidates.AtLeast field number ∷ rest) is
     (one_about some (candidates.AtLeast field number) rest is (bounds_about some field is numbers))
 
-kind_about : (some : List Kind) (field : ℕ) (blocks : List Block) (start : ℤ) (kind : Kind) → slice_get some field ≡ Some kind → AreAbout some (kind_candidates blocks field start kind)
-kind_about some field blocks start kinds.Int at = bounds_about some field (ap (is_kind kinds.Int) at) (pool blocks field start)
-kind_about some field blocks start kinds.Bool at =
+kind_about : (some : List Kind) (field : ℕ) (blocks : List Block) (own : List ℤ) (kind : Kind) → slice_get some field ≡ Some kind → AreAbout some (kind_candidates blocks field own kind)
+kind_about some field blocks own kinds.Int at = bounds_about some field (ap (is_kind kinds.Int) at) (pool blocks field own)
+kind_about some field blocks own kinds.Bool at =
     let is = ap (is_kind kinds.Bool) at in
     one_about some (candidates.Flag field true) (candidates.Flag field false ∷ []) is (one_about some (candidates.Flag field false) [] is (none_about some))
 
@@ -85,8 +85,8 @@ fields_about : (done : List Kind) (fields : List Field) (blocks : List Block) (n
 fields_about done [] blocks number same = none_about (done ++ [])
 fields_about done (field ∷ fields) blocks number same =
     let all = done ++ field.kind ∷ kinds_of fields in
-    both_about all (kind_candidates blocks number (number_of_value field.start) field.kind) (field_candidates blocks (number + 1) fields)
-    (kind_about all number blocks (number_of_value field.start) field.kind (ap (slice_get all) same ∙ past done (kinds_of fields) field.kind))
+    both_about all (kind_candidates blocks number (own_numbers field.start field.origin) field.kind) (field_candidates blocks (number + 1) fields)
+    (kind_about all number blocks (own_numbers field.start field.origin) field.kind (ap (slice_get all) same ∙ past done (kinds_of fields) field.kind))
     (subst (λ (some : List Kind). AreAbout some (field_candidates blocks (number + 1) fields)) (grouped done (kinds_of fields) field.kind)
     (fields_about (done ++ field.kind ∷ []) fields blocks (number + 1) (ap (λ (n : ℕ). n + 1) same ∙ sym (longer done field.kind))))
 

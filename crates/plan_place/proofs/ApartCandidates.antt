@@ -13,8 +13,7 @@ use Rattle.lang_monitor.specs.declared.candidate.Candidate.TheVariants as candid
 use Rattle.lang_monitor.specs.declared.monitor.Block.{Block}
 use Rattle.lang_monitor.specs.declared.monitor.Field.{Field}
 use Rattle.lang_monitor.specs.MonitorParts.{MonitorParts}
-use Rattle.lang_monitor.specs.Bodies.{number_of_value}
-use Rattle.lang_monitor.specs.Candidates.{AreSomeOf, MOST_BOUNDS, bounded, candidates_of, distinct, field_candidates, guard_bounds, int_fields, int_number, kind_candidates, pair_candidates, pool}
+use Rattle.lang_monitor.specs.Candidates.{AreSomeOf, MOST_BOUNDS, bounded, candidates_of, distinct, field_candidates, guard_bounds, int_fields, int_number, kind_candidates, own_numbers, pair_candidates, pool}
 
 -- ---- lists of distinct elements
 
@@ -144,17 +143,17 @@ flag_is field one within = elim (first_or_later (candidates.Flag field true) one
   | inr more ↦ (sym (ap field_in (only_in (candidates.Flag field false) one more)), sym (ap is_pair (only_in (candidates.Flag field false) one more)))
 ]
 
-of_kind : (blocks : List Block) (field : ℕ) (start : ℤ) (kind : Kind) (one : Candidate) → Contains (kind_candidates blocks field start kind) one → IsOf field one
-of_kind blocks field start kinds.Int one within =
-    let source = from_flat_map (bounded field) (pool blocks field start) one within in
+of_kind : (blocks : List Block) (field : ℕ) (own : List ℤ) (kind : Kind) (one : Candidate) → Contains (kind_candidates blocks field own kind) one → IsOf field one
+of_kind blocks field own kinds.Int one within =
+    let source = from_flat_map (bounded field) (pool blocks field own) one within in
     (same_field field source.from one source.within, no_pair field source.from one source.within)
-of_kind blocks field start kinds.Bool one within = flag_is field one within
+of_kind blocks field own kinds.Bool one within = flag_is field one within
 
-apart_kind : (blocks : List Block) (field : ℕ) (start : ℤ) (kind : Kind) → AreApart (kind_candidates blocks field start kind)
-apart_kind blocks field start kinds.Int =
-    apart_flat (bounded field) bound_in (same_bound field) (apart_bounded field) (pool blocks field start)
-    (apart_take MOST_BOUNDS (distinct (pos 0 ∷ start ∷ flat_map (guard_bounds field) blocks)) (apart_distinct (pos 0 ∷ start ∷ flat_map (guard_bounds field) blocks)))
-apart_kind blocks field start kinds.Bool = (
+apart_kind : (blocks : List Block) (field : ℕ) (own : List ℤ) (kind : Kind) → AreApart (kind_candidates blocks field own kind)
+apart_kind blocks field own kinds.Int =
+    apart_flat (bounded field) bound_in (same_bound field) (apart_bounded field) (pool blocks field own)
+    (apart_take MOST_BOUNDS (distinct (pos 0 ∷ (own ++ flat_map (guard_bounds field) blocks))) (apart_distinct (pos 0 ∷ (own ++ flat_map (guard_bounds field) blocks))))
+apart_kind blocks field own kinds.Bool = (
   λ within. let same = only_in (candidates.Flag field false) (candidates.Flag field true) within in cc,
   (λ within. none_in (candidates.Flag field false) within, tt),
 )
@@ -165,17 +164,17 @@ IsFrom field one = (field ≤ field_in one) × (is_pair one ≡ false)
 of_fields : (blocks : List Block) (number : ℕ) (fields : List Field) (one : Candidate) → Contains (field_candidates blocks number fields) one → IsFrom number one
 of_fields blocks number [] one within = none_in one within
 of_fields blocks number (field ∷ fields) one within =
-    elim (Contains-append_cases (kind_candidates blocks number (number_of_value field.start) field.kind) (field_candidates blocks (number + 1) fields) one within) [
-      | inl here ↦ (let is = of_kind blocks number (number_of_value field.start) field.kind one here in (omega (arith, is.0), is.1))
+    elim (Contains-append_cases (kind_candidates blocks number (own_numbers field.start field.origin) field.kind) (field_candidates blocks (number + 1) fields) one within) [
+      | inl here ↦ (let is = of_kind blocks number (own_numbers field.start field.origin) field.kind one here in (omega (arith, is.0), is.1))
       | inr there ↦ (let is = of_fields blocks (number + 1) fields one there in (omega (arith, is.0), is.1))
     ]
 
 apart_fields : (blocks : List Block) (number : ℕ) (fields : List Field) → AreApart (field_candidates blocks number fields)
 apart_fields blocks number [] = tt
 apart_fields blocks number (field ∷ fields) =
-    apart_append (kind_candidates blocks number (number_of_value field.start) field.kind) (field_candidates blocks (number + 1) fields)
-    (apart_kind blocks number (number_of_value field.start) field.kind) (apart_fields blocks (number + 1) fields)
-    (λ one here there. omega (arith, (of_kind blocks number (number_of_value field.start) field.kind one here).0, (of_fields blocks (number + 1) fields one there).0))
+    apart_append (kind_candidates blocks number (own_numbers field.start field.origin) field.kind) (field_candidates blocks (number + 1) fields)
+    (apart_kind blocks number (own_numbers field.start field.origin) field.kind) (apart_fields blocks (number + 1) fields)
+    (λ one here there. omega (arith, (of_kind blocks number (own_numbers field.start field.origin) field.kind one here).0, (of_fields blocks (number + 1) fields one there).0))
 
 -- ---- the candidates of pairs
 

@@ -1,13 +1,14 @@
 -- What is left after rounds, and that it is an invariant, with few limits the greatest.
-use Rattle.std.proofs.Common.{◌≡◌, ◌∙◌, ℕ, ◌<◌, true, List, length, get_or, sym, subst}
-use Rattle.std.specs.List.{All, Contains, filter, remove}
+use Rattle.std.proofs.Common.{◌≡◌, ◌⊎◌, inl, inr, ◌∙◌, ℕ, ◌<◌, true, List, length, get_or, sym, subst}
+use Rattle.std.specs.List.{All, Contains, remove}
 use Rattle.std.proofs.lemmas.List.{get_or_default}
-use Rattle.std.proofs.lemmas.List.Elements.{All-contains, Contains-get_or, filter_passes}
+use Rattle.std.proofs.lemmas.Bool.{true≢false}
+use Rattle.std.proofs.lemmas.List.Elements.{All-contains, Contains-get_or}
 use Rattle.lang_monitor.specs.declared.candidate.Candidate.{Candidate}
 use Rattle.lang_monitor.specs.declared.claim.Claim.TheVariants as claims
 use Rattle.lang_monitor.specs.Candidates.{AreSomeOf, candidate_truth, candidates_of}
-use Rattle.lang_monitor.specs.MonitorParts.{MonitorParts, start_of}
-use Rattle.lang_monitor.specs.Triples.{Keeps}
+use Rattle.lang_monitor.specs.MonitorParts.{MonitorParts}
+use Rattle.lang_monitor.specs.Triples.{IsFalseAtStart, IsTrueAtStart, Keeps}
 use Rattle.logic_wp.proofs.FewerKept.{more_keep_valid, some_contained}
 use Rattle.plan_prune.specs.declared.kept.Kept.{Kept}
 use Rattle.plan_prune.specs.Hardness.{HasNoHardClaim, MayBeKept}
@@ -15,17 +16,23 @@ use Rattle.plan_prune.specs.Invariants.{ContainsEasy, IsGreatest, IsInvariant, N
 use Rattle.plan_prune.specs.inner.Asking.{MustStay}
 use Rattle.plan_prune.specs.inner.Pruning.{IsLeft, IsRoundOf}
 use Rattle.plan_prune.proofs.HardClaims.{none_open}
-use Rattle.plan_candidates.proofs.SomeOf.{filter_contains, remove_contains, some_filter, some_hold, some_remove, some_same, some_trans}
+use Rattle.plan_candidates.specs.TrueAtStart.{AreTrueAtStart}
+use Rattle.plan_candidates.proofs.SomeOf.{remove_contains, some_hold, some_remove, some_same, some_trans}
 
 -- ---- at the start
 
-pub left_first : (monitor : MonitorParts) → IsLeft monitor (filter (candidate_truth (start_of monitor)) (candidates_of monitor))
-left_first monitor = record {
-  candidates = some_filter (candidate_truth (start_of monitor)) (candidates_of monitor);
-  starts = filter_passes (candidate_truth (start_of monitor)) (candidates_of monitor);
+kept_at_start : (monitor : MonitorParts) (kept : List Candidate) (one : Candidate) → IsTrueAtStart monitor one → Contains kept one ⊎ IsFalseAtStart monitor one → Contains kept one
+kept_at_start monitor kept one holds (inl is) = is
+kept_at_start monitor kept one holds (inr fails) = absurd (true≢false (sym (holds fails.0 fails.1) ∙ fails.2))
+
+pub left_first : (monitor : MonitorParts) (kept : List Candidate) → AreTrueAtStart monitor (candidates_of monitor) kept → IsLeft monitor kept
+left_first monitor kept are = record {
+  candidates = are.in_order;
+  starts = are.starts;
   easy = λ other invariant none k d low.
-      filter_contains (candidate_truth (start_of monitor)) (candidates_of monitor) (get_or other k d)
-      (some_contained other (candidates_of monitor) invariant.candidates k d low) (invariant.inductive.starts k d low);
+      kept_at_start monitor kept (get_or other k d) (λ start is. invariant.inductive.starts start is k d low)
+      (All-contains (λ (one : Candidate). Contains kept one ⊎ IsFalseAtStart monitor one) (candidates_of monitor) (get_or other k d) are.each
+      (some_contained other (candidates_of monitor) invariant.candidates k d low));
 }
 
 -- ---- after a round
@@ -49,7 +56,7 @@ pub left_some : (monitor : MonitorParts) (kept next : List Candidate)
     → IsLeft monitor kept → AreSomeOf next kept → All (λ candidate. MustStay monitor kept candidate → Contains next candidate) kept → IsLeft monitor next
 left_some monitor kept next left some stay = record {
   candidates = some_trans next kept (candidates_of monitor) some left.candidates;
-  starts = some_hold (λ candidate. candidate_truth (start_of monitor) candidate ≡ true) next kept some left.starts;
+  starts = λ start is. some_hold (λ candidate. candidate_truth start candidate ≡ true) next kept some (left.starts start is);
   easy = λ other invariant none k d low.
       let within = left.easy other invariant none in
       All-contains (λ candidate. MustStay monitor kept candidate → Contains next candidate) kept (get_or other k d) stay (within k d low)

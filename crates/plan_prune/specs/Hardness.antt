@@ -11,9 +11,10 @@ use Rattle.logic_solve.specs.Cubes.{HasGeneral, HasNoClash, IsCubeOf, rows_of_li
 use Rattle.lang_monitor.specs.declared.candidate.Candidate.{Candidate}
 use Rattle.lang_monitor.specs.declared.claim.Claim.{Claim}
 use Rattle.lang_monitor.specs.declared.query.Query.{Query}
-use Rattle.lang_monitor.specs.Candidates.{AllHold, AreSomeOf, candidates_of}
-use Rattle.lang_monitor.specs.MonitorParts.{MonitorParts, start_of}
+use Rattle.lang_monitor.specs.Candidates.{AreSomeOf, candidates_of}
+use Rattle.lang_monitor.specs.MonitorParts.{MonitorParts}
 use Rattle.lang_monitor.specs.Queries.{query_of}
+use Rattle.lang_monitor.specs.Triples.{HoldAtStart}
 use Rattle.logic_wp.specs.PlainClaims.{IsClaimOf, is_simple_block, is_within_limits}
 use Rattle.logic_wp.specs.NegatedQueries.{negated_query}
 
@@ -50,10 +51,10 @@ pub data MayStayOpen (monitor : MonitorParts) (query : Query) : Type 0 where
   heavy : HasHeavyCube (negated_query monitor query) → MayStayOpen monitor query
   fractions : HasFractionalCube (negated_query monitor query) → MayStayOpen monitor query
 
--- some of the monitor's candidates, all true at the start
+-- some of the monitor's candidates, all true at the start, whatever it is opened with
 pub record MayBeKept (monitor : MonitorParts) (kept : List Candidate) : Type 0 where
   pub candidates : AreSomeOf kept (candidates_of monitor)
-  pub starts : AllHold (start_of monitor) kept
+  pub starts : HoldAtStart monitor kept
 
 -- why a claim is hard: candidates may be kept with which its query may stay open
 pub data IsHard (monitor : MonitorParts) (claim : Claim) : Type 0 where

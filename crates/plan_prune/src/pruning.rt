@@ -34,13 +34,13 @@ fn pruned(alloc: Global, monitor: &Monitor, first: Vec<Candidate>) -> Result<Rou
     }
 }
 
-/// The candidates that are true at the start and that each block keeps under all of them, with a
-/// proof for each of them and each block. It contains every invariant of the monitor's candidates
-/// none of whose queries may stay open, whatever may be kept with it, and so where no claim of the
-/// monitor is hard it is the greatest invariant of its candidates. The makers of queries take what
-/// is kept. It fails only for want of memory.
+/// The candidates that are true at the start, whatever the monitor is opened with, and that each
+/// block keeps under all of them, with a proof for each of them and each block. It contains every
+/// invariant of the monitor's candidates none of whose queries may stay open, whatever may be kept
+/// with it, and so where no claim of the monitor is hard it is the greatest invariant of its
+/// candidates. The makers of queries take what is kept. It fails only for want of memory.
 ///
-/// The candidates that are false at the start are dropped, and then those that some block is not
+/// The candidates that are false at some start are dropped, and then those that some block is not
 /// found to keep under all that are left. Each is dropped at once, and a claim is asked again only
 /// where a candidate was dropped that its last certificate used; what certificates used is all that
 /// is held of them. Then rounds ask all that are left, until one drops none: mostly the first,

@@ -1,16 +1,17 @@
 -- What is seen of a plan without a proof, and the tests of it.
-use Rattle.std.proofs.Common.{◌≡◌, ◌==◌, ◌↔◌, inl, inr, ℕ, zero, suc, ◌+◌, ◌-◌, ◌<◌, ◌≤◌, Bool, true, false, not, ◌&&◌, ◌||◌, IsTrue, List, [], ◌∷◌, length, take, get_or, Option, Some, None, refl, sym, ap, ap₂, subst, ◌∙◌, arith}
+use Rattle.std.proofs.Common.{◌≡◌, ◌==◌, ◌↔◌, inl, inr, ℕ, zero, suc, ◌+◌, ◌-◌, ◌<◌, ◌≤◌, Bool, true, false, not, ◌&&◌, ◌||◌, IsTrue, List, length, take, get_or, Option, Some, None, refl, sym, ap, ap₂, subst, ◌∙◌, arith}
 use Rattle.std.specs.Prelude.{All, IsSomeAnd, slice_get}
 use Rattle.std.specs.Option.{option_map_or}
-use Rattle.std.proofs.lemmas.Bool.{and_parts, cases_Bool, cases_eq, eq-eqb, eqb-true, true≢false}
+use Rattle.std.proofs.lemmas.Bool.{and_parts, cases_eq, eq-eqb, eqb-true, true≢false}
 use Rattle.std.proofs.lemmas.Option.{slice_get-get_or, slice_get_within}
-use Rattle.std.proofs.lemmas.List.Elements.{All-nil, All-cons, All-head}
+use Rattle.std.proofs.lemmas.List.Elements.{All-nil}
 use Rattle.lang_monitor.specs.declared.candidate.Candidate.{Candidate}
 use Rattle.lang_monitor.specs.declared.monitor.Condition.{Condition}
-use Rattle.lang_monitor.specs.Candidates.{AllHold, candidate_truth}
+use Rattle.lang_monitor.specs.Candidates.{candidate_truth}
 use Rattle.lang_monitor.specs.Conditions.{IsDescribed}
 use Rattle.lang_monitor.specs.Inputs.{reads_inputs}
-use Rattle.lang_monitor.specs.MonitorParts.{MonitorParts, IsMonitor, start_of}
+use Rattle.lang_monitor.specs.MonitorParts.{MonitorParts, IsMonitor}
+use Rattle.lang_monitor.specs.Triples.{HoldAtStart, IsFalseAtStart, IsTrueAtStart}
 use Rattle.machine_events.specs.declared.plan.CondKind.{CondKind}
 use Rattle.machine_events.specs.declared.plan.CondKind.TheVariants as kinds
 use Rattle.machine_events.specs.declared.plan.Note.{Note}
@@ -28,32 +29,21 @@ use Rattle.report_audit.specs.inner.Seen.{AreListsSuited, AreNotesSuited, IsFals
 
 -- ---- the start
 
-abbrev Holds : MonitorParts → Candidate → Type 0
-Holds monitor candidate = candidate_truth (start_of monitor) candidate ≡ true
-
 there : (kept : List Candidate) (place : ℕ) (candidate d : Candidate) → place < length kept → candidate ≡ get_or kept place d
     → slice_get kept place ≡ Some candidate
 there kept place candidate d low is = slice_get-get_or kept place d low ∙ ap {B = Option Candidate} (λ (one : Candidate). Some one) (sym is)
 
-pub one_holds : (monitor : MonitorParts) (candidate : Candidate) (result : Bool)
-    → (IsTrue result ↔ AllHold (start_of monitor) (candidate ∷ [])) → result ≡ candidate_truth (start_of monitor) candidate
-one_holds monitor candidate true told = sym (All-head (Holds monitor) candidate [] (told.0 refl))
-one_holds monitor candidate false told = elim (cases_Bool (candidate_truth (start_of monitor) candidate)) [
-  | inl holds ↦ absurd (true≢false (sym (told.1 (All-cons (Holds monitor) candidate [] holds (All-nil (Holds monitor))))))
-  | inr fails ↦ sym fails
-]
-
 pub false_here : (monitor : MonitorParts) (kept : List Candidate) (place : ℕ) (candidate d : Candidate) (result : Bool) → place < length kept
-    → candidate ≡ get_or kept place d → result ≡ candidate_truth (start_of monitor) candidate → result ≡ false
-    → AllHold (start_of monitor) (take place kept) → IsFalseAt monitor kept (Some place)
+    → candidate ≡ get_or kept place d → (result ≡ false → IsFalseAtStart monitor candidate) → result ≡ false
+    → HoldAtStart monitor (take place kept) → IsFalseAt monitor kept (Some place)
 false_here monitor kept place candidate d result low is told fails before =
-    (subst (λ (o : Option Candidate). IsSomeAnd o (λ one. candidate_truth (start_of monitor) one ≡ false)) (sym (there kept place candidate d low is)) (sym told ∙ fails), before)
+    (subst (λ (o : Option Candidate). IsSomeAnd o (IsFalseAtStart monitor)) (sym (there kept place candidate d low is)) (told fails), before)
 
 pub true_more : (monitor : MonitorParts) (kept : List Candidate) (place : ℕ) (candidate d : Candidate) (result : Bool) → place < length kept
-    → candidate ≡ get_or kept place d → result ≡ candidate_truth (start_of monitor) candidate → result ≡ true
-    → AllHold (start_of monitor) (take place kept) → AllHold (start_of monitor) (take (place + 1) kept)
-true_more monitor kept place candidate d result low is told holds before =
-    one_more_at (Holds monitor) kept place candidate (there kept place candidate d low is) before (sym told ∙ holds)
+    → candidate ≡ get_or kept place d → (IsTrue result ↔ IsTrueAtStart monitor candidate) → result ≡ true
+    → HoldAtStart monitor (take place kept) → HoldAtStart monitor (take (place + 1) kept)
+true_more monitor kept place candidate d result low is told holds before = λ start admitted.
+    one_more_at (λ (one : Candidate). candidate_truth start one ≡ true) kept place candidate (there kept place candidate d low is) (before start admitted) (told.0 holds start admitted)
 
 -- ---- tests of one condition
 
@@ -212,7 +202,7 @@ suited_more monitor plan index result rule told holds before other first last = 
     no_less one bound low differs = omega arith
 
 -- nothing is wrong at sight
-pub at_sight : (monitor : MonitorParts) (plan : Plan) → IsPlanOf monitor plan → AllHold (start_of monitor) plan.kept
+pub at_sight : (monitor : MonitorParts) (plan : Plan) → IsPlanOf monitor plan → HoldAtStart monitor plan.kept
     → ((number : ℕ) → IsConditionNumber monitor number → IsSuited monitor plan number) → IsLawfulAtSight monitor plan
 at_sight monitor plan of starts each = record {
   starts = starts;

@@ -11,8 +11,8 @@ use Rattle.lang_monitor.specs.declared.claim.Claim.{Claim}
 use Rattle.lang_monitor.specs.declared.claim.Claim.TheVariants as claims
 use Rattle.lang_monitor.specs.declared.monitor.Block.{Block}
 use Rattle.lang_monitor.specs.Candidates.{candidate_truth, candidates_of}
-use Rattle.lang_monitor.specs.MonitorParts.{MonitorParts, IsMonitor, start_of}
-use Rattle.lang_monitor.specs.Triples.{Holds, IsInductive, Keeps, OneEnough}
+use Rattle.lang_monitor.specs.MonitorParts.{MonitorParts, IsMonitor}
+use Rattle.lang_monitor.specs.Triples.{HoldAtStart, Holds, IsFalseAtStart, IsInductive, Keeps, OneEnough}
 use Rattle.machine_events.specs.declared.plan.CondKind.{CondKind}
 use Rattle.machine_events.specs.declared.plan.CondKind.TheVariants as kinds
 use Rattle.machine_events.specs.declared.plan.Note.{Note}
@@ -125,14 +125,14 @@ asked_told monitor plan rule of lawful sight =
 
 -- ---- what is found of a lawful plan
 
-pub false_nowhere : (monitor : MonitorParts) (kept : List Candidate) (place : ℕ) → All (λ candidate. candidate_truth (start_of monitor) candidate ≡ true) kept
-    → IsSomeAnd (slice_get kept place) (λ candidate. candidate_truth (start_of monitor) candidate ≡ false) → ⊥
+pub false_nowhere : (monitor : MonitorParts) (kept : List Candidate) (place : ℕ) → HoldAtStart monitor kept
+    → IsSomeAnd (slice_get kept place) (IsFalseAtStart monitor) → ⊥
 false_nowhere monitor kept place all here = by_found (slice_get kept place) refl here
   where
-    by_found : (found : Option Candidate) → slice_get kept place ≡ found → IsSomeAnd found (λ candidate. candidate_truth (start_of monitor) candidate ≡ false) → ⊥
+    by_found : (found : Option Candidate) → slice_get kept place ≡ found → IsSomeAnd found (IsFalseAtStart monitor) → ⊥
     by_found None is none = none
     by_found (Some candidate) is fails =
-        true≢false (sym (all_at (λ (one : Candidate). candidate_truth (start_of monitor) one ≡ true) kept place candidate is all) ∙ fails)
+        true≢false (sym (all_at (λ (one : Candidate). candidate_truth fails.0 one ≡ true) kept place candidate is (all fails.0 fails.1)) ∙ fails.2)
 
 pub found_of_lawful : (monitor : MonitorParts) (plan : Plan) (finding : Finding) → IsMonitor monitor → IsPlanOf monitor plan → HasNoOpenClaim monitor plan.kept
     → IsLawful monitor plan → IsFinding monitor plan finding → finding ≡ findings.Lawful

@@ -5,10 +5,9 @@ use Rattle.std.specs.List.{filter}
 use Rattle.lang_monitor.specs.declared.claim.Claim.{Claim}
 use Rattle.lang_monitor.specs.declared.claim.Claim.TheVariants as claims
 use Rattle.lang_monitor.specs.declared.monitor.Condition.{Condition}
-use Rattle.lang_monitor.specs.Candidates.{AllHold, candidate_truth}
 use Rattle.lang_monitor.specs.Inputs.{reads_inputs}
-use Rattle.lang_monitor.specs.MonitorParts.{MonitorParts, start_of}
-use Rattle.lang_monitor.specs.Triples.{Holds}
+use Rattle.lang_monitor.specs.MonitorParts.{MonitorParts}
+use Rattle.lang_monitor.specs.Triples.{HoldAtStart, Holds, IsFalseAtStart}
 use Rattle.machine_events.specs.declared.plan.CondKind.TheVariants as kinds
 use Rattle.machine_events.specs.declared.plan.Plan.{Plan}
 use Rattle.machine_events.specs.Plans.{EachNoteOn, IsCondition, IsLawful, WakesAll, condition_kind}
@@ -22,11 +21,10 @@ use Rattle.report_audit.specs.declared.finding.Finding.TheVariants as findings
 
 -- ---- faults that are seen without a proof
 
--- the kept candidate at this place, counted from 0, is the first that is false at the start
+-- the kept candidate at this place, counted from 0, is the first that is false at some start
 pub record IsFirstFalse (monitor : MonitorParts) (plan : Plan) (place : ℕ) : Type 0 where
-  pub here : IsSomeAnd (slice_get plan.kept place)
-      (λ candidate. candidate_truth (start_of monitor) candidate ≡ false)
-  pub before : AllHold (start_of monitor) (take place plan.kept)
+  pub here : IsSomeAnd (slice_get plan.kept place) (IsFalseAtStart monitor)
+  pub before : HoldAtStart monitor (take place plan.kept)
 
 -- what a lawful plan owes at a condition without a proof: its kind and the notes on it suit it
 pub record IsSuited (monitor : MonitorParts) (plan : Plan) (number : ℕ) : Type 0 where
@@ -39,7 +37,7 @@ pub record IsSuited (monitor : MonitorParts) (plan : Plan) (number : ℕ) : Type
 
 -- what is kept is true at the start, and this is the first condition that isn't suited
 pub record IsFirstUnsuited (monitor : MonitorParts) (plan : Plan) (number : ℕ) : Type 0 where
-  pub starts : AllHold (start_of monitor) plan.kept
+  pub starts : HoldAtStart monitor plan.kept
   pub there : IsConditionNumber monitor number
   pub here : IsSuited monitor plan number → ⊥
   pub before : (other : ℕ) → 1 ≤ other → other < number → IsSuited monitor plan other

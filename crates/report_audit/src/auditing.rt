@@ -3,8 +3,7 @@
 ghost use Rattle.std.specs.Prelude.{◌≡◌, ◌↔◌, IfOk, All};
 ghost use Rattle.plan_counted.specs.Exact.{HasNoOpenQuestion};
 ghost use Rattle.machine_events.specs.Plans.{IsLawful};
-ghost use Rattle.lang_monitor.specs.Candidates.{AllHold};
-ghost use Rattle.lang_monitor.specs.MonitorParts.{start_of};
+ghost use Rattle.lang_monitor.specs.Triples.{HoldAtStart};
 ghost use Rattle.plan_claims.specs.Backing.{HasCertificate, backed_claims};
 ghost use Rattle.plan_prune.specs.Hardness.{HasNoHardClaim, HasNoOpenClaim};
 ghost use Rattle.report_verdict.specs.Reports.{IsPlanOf};
@@ -109,7 +108,7 @@ fn found(alloc: Global, monitor: &Monitor, plan: &Plan, count: bool) -> Result<F
 /// What is found of a plan whose kept candidates are true at the start.
 fn suited(alloc: Global, monitor: &Monitor, plan: &Plan, count: bool) -> Result<Finding, AllocError>
     requires plan { IsPlanOf monitor.now plan.now }
-    requires starts { AllHold (start_of monitor.now) plan.now.kept }
+    requires starts { HoldAtStart monitor.now plan.now.kept }
     ensures { IfOk result (IsFindingBy count monitor.now plan.now) }
 {
     match first_unsuited(monitor, plan) {

@@ -8,7 +8,7 @@ use plan_count::Question;
 pub enum Finding {
     /// It is lawful, or where signals may be counted, lawful by counting.
     Lawful,
-    /// The kept candidate at this place, counted from 0, is the first that is false at the start.
+    /// The kept candidate at this place, counted from 0, is the first that is false at some start.
     Start { kept: u32 },
     /// The kind of this condition, numbered from 1, or a note on it doesn't suit it; it is the
     /// first such one.

@@ -1,8 +1,6 @@
 //! What is seen of a plan without a proof.
 
 ghost use Rattle.std.specs.Prelude.{◌≡◌, ◌↔◌, ◌<◌, ◌^◌, ◌||◌, IsTrue, length};
-ghost use Rattle.lang_monitor.specs.Candidates.{candidate_truth};
-ghost use Rattle.lang_monitor.specs.MonitorParts.{start_of};
 ghost use Rattle.report_verdict.specs.Reports.{IsPlanOf};
 ghost use Rattle.report_audit.specs.inner.Seen.{AreListsSuited, AreNotesSuited, IsFalseAt};
 ghost use Rattle.report_audit.specs.inner.Seen.{IsUnsuitedAt};
@@ -10,29 +8,23 @@ ghost use Rattle.report_audit.specs.inner.Seen.{SuitsAs, suits_on};
 
 use lang_monitor::{Candidate, Monitor};
 use machine_events::{Note, NoteList, Plan};
-use plan_candidates::are_true_at_start;
+use plan_candidates::is_true_at_start;
 use plan_claims::reads_none;
 use plan_place::is_broadcast_at;
 
 // ---- the start
 
-/// The place of the first candidate that is false at the start, or none.
+/// The place of the first candidate that is false at some start, or none.
 pub(crate) fn first_false(monitor: &Monitor, kept: &[Candidate]) -> Option<u32>
     requires { length kept.now < 2 ^ 32 }
     ensures { IsFalseAt monitor.now kept.now result }
 {
     for place in 0..kept.len() {
-        if !is_true(monitor, kept[place]) {
+        if !is_true_at_start(monitor, kept[place]) {
             return Some(place as u32);
         }
     }
     None
-}
-
-fn is_true(monitor: &Monitor, candidate: Candidate) -> bool
-    ensures { result ≡ candidate_truth (start_of monitor.now) candidate }
-{
-    are_true_at_start(monitor, &[candidate])
 }
 
 // ---- kinds, and notes

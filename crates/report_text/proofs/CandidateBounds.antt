@@ -1,9 +1,9 @@
 -- The candidates of a monitor are about its fields, and a bound of one is the field's number at the
--- start, or small.
+-- start where nothing is chosen, or small.
 use Rattle.std.proofs.Common.{◌≡◌, ◌==◌, ℕ, zero, suc, ◌+◌, ◌^◌, ℤ, pos, neg_ℤ, ◌+ℤ◌, ◌-ℤ◌, Bool, true, false, not, ◌&&◌, List, [], ◌∷◌, ◌++◌, map, get_or, take, Some, cond, sym, subst, arith, ap, refl, ◌∙◌, inl, inr}
 use Rattle.std.specs.Prelude.{slice_get}
 use Rattle.std.specs.Option.{option_map_or}
-use Rattle.std.specs.List.{list_all, filter, flat_map, AllByRecursion as Each}
+use Rattle.std.specs.List.{All, list_all, filter, flat_map, AllByRecursion as Each}
 use Rattle.std.specs.Ordering.{int_eq}
 use Rattle.std.specs.Cmp.Lexicographic.{pointwise}
 use Rattle.std.proofs.lemmas.Bool.{and_parts}
@@ -24,9 +24,13 @@ use Rattle.lang_monitor.specs.declared.candidate.Candidate.TheVariants as candid
 use Rattle.lang_monitor.specs.declared.monitor.Field.{Field}
 use Rattle.lang_monitor.specs.declared.monitor.Block.{Block}
 use Rattle.lang_monitor.specs.Bodies.{number_of_value}
-use Rattle.lang_monitor.specs.MonitorParts.{MonitorParts, IsMonitor, Places, method_places, fits_term, fits_formula_step, fits_formula, fits_statement, fits_result}
+use Rattle.lang_base.specs.declared.value.Value.{Value}
+use Rattle.lang_monitor.specs.declared.start.Origin.{Origin}
+use Rattle.lang_monitor.specs.declared.start.Origin.TheVariants as origins
+use Rattle.lang_monitor.specs.Starts.{limit_number}
+use Rattle.lang_monitor.specs.MonitorParts.{MonitorParts, IsMonitor, HasOrigin, Places, method_places, fits_term, fits_formula_step, fits_formula, fits_statement, fits_result}
 use Rattle.machine_implicit.proofs.Placed.{placed}
-use Rattle.lang_monitor.specs.Candidates.{once, opposite, bound_of, around, guard_bounds, distinct, MOST_BOUNDS, pool, bounded, kind_candidates, field_candidates, int_fields, pair_candidates, candidates_of}
+use Rattle.lang_monitor.specs.Candidates.{once, opposite, bound_of, around, guard_bounds, distinct, MOST_BOUNDS, pool, bounded, kind_candidates, field_candidates, int_fields, pair_candidates, candidates_of, own_numbers}
 use Rattle.machine_events.specs.Plans.{AreSomeOf}
 use Rattle.lang_base.proofs.Numerals.{SMALL, IsNear}
 
@@ -147,12 +151,19 @@ distinct_each : (P : ℤ → Type 0) (xs : List ℤ) → Each P xs → Each P (d
 distinct_each P [] each = tt
 distinct_each P (x ∷ xs) each = (each.0, filter_each P (λ other. not (int_eq other x)) (distinct xs) (distinct_each P xs each.1))
 
-pool_near : (blocks : List Block) (field : ℕ) (start : ℤ) → Each HasBlockRows blocks
-    → Each (IsNear start) (pool blocks field start)
-pool_near blocks field start rows =
-    let numbers : List ℤ = pos 0 ∷ start ∷ flat_map (guard_bounds field) blocks in
+pool_near : (blocks : List Block) (field : ℕ) (start : ℤ) (own : List ℤ) → Each HasBlockRows blocks
+    → Each (IsNear start) own → Each (IsNear start) (pool blocks field own)
+pool_near blocks field start own rows owned =
+    let guards : List ℤ = flat_map (guard_bounds field) blocks in
+    let numbers : List ℤ = pos 0 ∷ (own ++ guards) in
     take_each (IsNear start) MOST_BOUNDS (distinct numbers) (distinct_each (IsNear start) numbers
-    (inr refl, (inl refl, each_flat HasBlockRows (IsNear start) (guard_bounds field) (guard_near start field) blocks rows)))
+    (inr refl, each_append (IsNear start) own guards owned (each_flat HasBlockRows (IsNear start) (guard_bounds field) (guard_near start field) blocks rows)))
+
+own_near : (all : List Field) (kind : Kind) (start : Value) (origin : Origin) → HasOrigin all kind origin
+    → Each (IsNear (number_of_value start)) (own_numbers start origin)
+own_near all kind start origins.Own has = (inl refl, tt)
+own_near all kind start (origins.Chosen limit) has = (inr (same_near_one (number_of_value start) (limit_number limit) has.1), tt)
+own_near all kind start (origins.Copied parameter) has = tt
 
 -- ---- candidates
 
@@ -167,23 +178,25 @@ IsNearStart starts (candidates.AtLeast field bound) = IsNear (starts field) boun
 IsNearStart starts (candidates.Flag field is) = Unit {0}
 IsNearStart starts (candidates.Below left right) = Unit {0}
 
-kind_near : (starts : ℕ → ℤ) (blocks : List Block) (field : ℕ) (start : ℤ) (kind : Kind)
-    → Each HasBlockRows blocks → starts field ≡ start
-    → Each (IsNearStart starts) (kind_candidates blocks field start kind)
-kind_near starts blocks field start kinds.Int rows is =
-    each_flat (IsNear (starts field)) (IsNearStart starts) (bounded field) (λ bound near. (near, (near, tt))) (pool blocks field start)
-    (subst (λ one. Each (IsNear one) (pool blocks field start)) (sym is) (pool_near blocks field start rows))
-kind_near starts blocks field start kinds.Bool rows is = (tt, (tt, tt))
+kind_near : (starts : ℕ → ℤ) (blocks : List Block) (field : ℕ) (start : ℤ) (own : List ℤ) (kind : Kind)
+    → Each HasBlockRows blocks → Each (IsNear start) own → starts field ≡ start
+    → Each (IsNearStart starts) (kind_candidates blocks field own kind)
+kind_near starts blocks field start own kinds.Int rows owned is =
+    each_flat (IsNear (starts field)) (IsNearStart starts) (bounded field) (λ bound near. (near, (near, tt))) (pool blocks field own)
+    (subst (λ one. Each (IsNear one) (pool blocks field own)) (sym is) (pool_near blocks field start own rows owned))
+kind_near starts blocks field start own kinds.Bool rows owned is = (tt, (tt, tt))
 
-fields_near : (starts : ℕ → ℤ) (blocks : List Block) (number : ℕ) (fields : List Field)
+fields_near : (starts : ℕ → ℤ) (all : List Field) (blocks : List Block) (number : ℕ) (fields : List Field)
     → Each HasBlockRows blocks → ((k : ℕ) → starts (number + k) ≡ start_at fields k)
+    → All (λ field. HasOrigin all field.kind field.origin) fields
     → Each (IsNearStart starts) (field_candidates blocks number fields)
-fields_near starts blocks number [] rows are = tt
-fields_near starts blocks number (field ∷ fields) rows are =
+fields_near starts all blocks number [] rows are has = tt
+fields_near starts all blocks number (field ∷ fields) rows are has =
     let first : ℤ = number_of_value field.start in
-    each_append (IsNearStart starts) (kind_candidates blocks number first field.kind) (field_candidates blocks (number + 1) fields)
-    (kind_near starts blocks number first field.kind rows (ap starts {x = number} {y = number + 0} (omega arith) ∙ are 0))
-    (fields_near starts blocks (number + 1) fields rows (λ k. ap starts {x = number + 1 + k} {y = number + suc k} (omega arith) ∙ are (suc k)))
+    let own : List ℤ = own_numbers field.start field.origin in
+    each_append (IsNearStart starts) (kind_candidates blocks number own field.kind) (field_candidates blocks (number + 1) fields)
+    (kind_near starts blocks number first own field.kind rows (own_near all field.kind field.start field.origin (has zero field (omega arith))) (ap starts {x = number} {y = number + 0} (omega arith) ∙ are 0))
+    (fields_near starts all blocks (number + 1) fields rows (λ k. ap starts {x = number + 1 + k} {y = number + suc k} (omega arith) ∙ are (suc k)) (λ k d low. has (suc k) d (omega arith)))
 
 below_near : (starts : ℕ → ℤ) (left : ℕ) (rights : List ℕ)
     → Each (IsNearStart starts) (map (candidates.Below left) rights)
@@ -204,7 +217,7 @@ candidates_near monitor rule =
     let starts : ℕ → ℤ = start_at monitor.fields in
     let ints_of : List ℕ = int_fields 0 monitor.fields in
     each_append (IsNearStart starts) (field_candidates monitor.blocks 0 monitor.fields) (pair_candidates ints_of)
-    (fields_near starts monitor.blocks 0 monitor.fields (blocks_rows monitor rule) (λ k. ap starts {x = 0 + k} {y = k} (omega arith)))
+    (fields_near starts monitor.fields monitor.blocks 0 monitor.fields (blocks_rows monitor rule) (λ k. ap starts {x = 0 + k} {y = k} (omega arith)) rule.origins)
     (pairs_near starts ints_of ints_of)
 
 -- ---- those that are kept

@@ -39,6 +39,7 @@ refusal_text refusals.TooLarge = codes "number too large"
 refusal_text (refusals.TooMany what) = counted_text what
 refusal_text refusals.ReadOnly = codes "not a field"
 refusal_text refusals.Misplaced = codes "misplaced return"
+refusal_text refusals.WrongStart = codes "wrong start"
 refusal_text refusals.UnknownMethod = codes "unknown method"
 refusal_text refusals.WrongCount = codes "wrong number of arguments"
 refusal_text refusals.DuplicateClient = codes "client used twice"

@@ -108,6 +108,7 @@ fn refusal_bytes(what: Refusal) -> &'static [u8]
         Refusal::TooMany(counted) => counted_bytes(counted),
         Refusal::ReadOnly => b"not a field",
         Refusal::Misplaced => b"misplaced return",
+        Refusal::WrongStart => b"wrong start",
         Refusal::UnknownMethod => b"unknown method",
         Refusal::WrongCount => b"wrong number of arguments",
         Refusal::DuplicateClient => b"client used twice",

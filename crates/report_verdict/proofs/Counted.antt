@@ -1,5 +1,5 @@
 -- How many candidates a monitor has at most.
-use Rattle.std.proofs.Common.{◌≡◌, ◌==◌, ℕ, ◌+◌, ◌*◌, ◌≤◌, Bool, true, false, not, cond, ℤ, pos, List, [], ◌∷◌, map, length, length-append, refl, arith}
+use Rattle.std.proofs.Common.{◌≡◌, ◌==◌, ℕ, ◌+◌, ◌*◌, ◌≤◌, Bool, true, false, not, cond, ℤ, pos, List, [], ◌∷◌, ◌++◌, map, length, length-append, refl, arith}
 use Rattle.std.specs.List.{filter, flat_map}
 use Rattle.std.proofs.lemmas.List.{length-map, length-take}
 use Rattle.lang_base.specs.declared.kind.Kind.{Kind}
@@ -8,8 +8,7 @@ use Rattle.lang_monitor.specs.declared.candidate.Candidate.{Candidate}
 use Rattle.lang_monitor.specs.declared.candidate.Candidate.TheVariants as candidates
 use Rattle.lang_monitor.specs.declared.monitor.Block.{Block}
 use Rattle.lang_monitor.specs.declared.monitor.Field.{Field}
-use Rattle.lang_monitor.specs.Bodies.{number_of_value}
-use Rattle.lang_monitor.specs.Candidates.{AreSomeOf, bounded, candidates_of, distinct, field_candidates, guard_bounds, int_fields, int_number, kind_candidates, pair_candidates, pool}
+use Rattle.lang_monitor.specs.Candidates.{AreSomeOf, bounded, candidates_of, distinct, field_candidates, guard_bounds, int_fields, int_number, kind_candidates, own_numbers, pair_candidates, pool}
 use Rattle.lang_monitor.specs.MonitorParts.{MonitorParts, IsMonitor}
 use Rattle.plan_candidates.proofs.SomeOf.{some_length}
 
@@ -18,19 +17,19 @@ doubled : (field : ℕ) (bounds : List ℤ)
 doubled field [] = refl
 doubled field (bound ∷ bounds) = omega (arith, doubled field bounds)
 
-of_kind : (blocks : List Block) (field : ℕ) (start : ℤ) (kind : Kind)
-    → length (kind_candidates blocks field start kind) ≤ 24
-of_kind blocks field start kinds.Int =
-    let all : List ℤ = distinct (pos 0 ∷ start ∷ flat_map (guard_bounds field) blocks) in
-    omega (arith, doubled field (pool blocks field start), length-take 12 all)
-of_kind blocks field start kinds.Bool = omega arith
+of_kind : (blocks : List Block) (field : ℕ) (own : List ℤ) (kind : Kind)
+    → length (kind_candidates blocks field own kind) ≤ 24
+of_kind blocks field own kinds.Int =
+    let all : List ℤ = distinct (pos 0 ∷ (own ++ flat_map (guard_bounds field) blocks)) in
+    omega (arith, doubled field (pool blocks field own), length-take 12 all)
+of_kind blocks field own kinds.Bool = omega arith
 
 of_fields : (blocks : List Block) (number : ℕ) (fields : List Field)
     → length (field_candidates blocks number fields) ≤ 24 * length fields
 of_fields blocks number [] = omega arith
 of_fields blocks number (field ∷ fields) =
-    let here = kind_candidates blocks number (number_of_value field.start) field.kind in
-    omega (arith, length-append here (field_candidates blocks (number + 1) fields), of_kind blocks number (number_of_value field.start) field.kind, of_fields blocks (number + 1) fields)
+    let here = kind_candidates blocks number (own_numbers field.start field.origin) field.kind in
+    omega (arith, length-append here (field_candidates blocks (number + 1) fields), of_kind blocks number (own_numbers field.start field.origin) field.kind, of_fields blocks (number + 1) fields)
 
 of_number : (number : ℕ) (kind : Kind) → length (int_number number kind) ≤ 1
 of_number number kinds.Int = omega arith

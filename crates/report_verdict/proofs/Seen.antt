@@ -8,10 +8,10 @@ use Rattle.std.proofs.lemmas.Bool.{and_parts, true≢false}
 use Rattle.std.proofs.lemmas.Option.{slice_get_within}
 use Rattle.std.proofs.lemmas.List.Elements.{All-nil}
 use Rattle.lang_monitor.specs.declared.monitor.Condition.{Condition}
-use Rattle.lang_monitor.specs.Candidates.{AllHold}
 use Rattle.lang_monitor.specs.Conditions.{IsDescribed}
 use Rattle.lang_monitor.specs.Inputs.{reads_inputs}
-use Rattle.lang_monitor.specs.MonitorParts.{MonitorParts, IsMonitor, start_of}
+use Rattle.lang_monitor.specs.MonitorParts.{MonitorParts, IsMonitor}
+use Rattle.lang_monitor.specs.Triples.{HoldAtStart}
 use Rattle.machine_events.specs.declared.plan.CondKind.{CondKind}
 use Rattle.machine_events.specs.declared.plan.CondKind.TheVariants as kinds
 use Rattle.machine_events.specs.declared.plan.Note.{Note}
@@ -127,7 +127,7 @@ kind_at_number monitor plan number condition rule fits suited is reads =
     kind.1 ∙ ap Some (broadcast_suits kind.0 (suits_broadcast condition.reads_inputs kind.0 (described.inputs ∙ reads) suits))
 
 pub seen : (monitor : MonitorParts) (plan : Plan) → IsMonitor monitor → IsPlanOf monitor plan
-    → AllHold (start_of monitor) plan.kept → AreKindsSuited monitor.conditions plan.kinds
+    → HoldAtStart monitor plan.kept → AreKindsSuited monitor.conditions plan.kinds
     → AreListsSuited monitor plan.kinds plan.notes → IsLawfulAtSight monitor plan
 seen monitor plan rule fits starts suited lists = record {
   starts = starts;

@@ -5,10 +5,10 @@ use Rattle.logic_cert.specs.declared.cert.Cert.{Cert}
 use Rattle.lang_monitor.specs.declared.candidate.Candidate.{Candidate}
 use Rattle.lang_monitor.specs.declared.claim.Claim.{Claim}
 use Rattle.lang_monitor.specs.declared.monitor.Condition.{Condition}
-use Rattle.lang_monitor.specs.Candidates.{AllHold}
 use Rattle.lang_monitor.specs.Inputs.{reads_inputs}
-use Rattle.lang_monitor.specs.MonitorParts.{MonitorParts, start_of}
+use Rattle.lang_monitor.specs.MonitorParts.{MonitorParts}
 use Rattle.lang_monitor.specs.Queries.{query_of}
+use Rattle.lang_monitor.specs.Triples.{HoldAtStart}
 use Rattle.machine_events.specs.declared.plan.CondKind.TheVariants as kinds
 use Rattle.machine_events.specs.declared.plan.Plan.{Plan}
 use Rattle.machine_events.specs.Plans.{EachNoteOn, IsCondition, IsLawful, WakesAll, condition_kind}
@@ -24,7 +24,7 @@ use Rattle.report_verdict.specs.Reports.{proofs_of}
 -- what a lawful plan owes without a proof: what it keeps is true at the start, and its kinds and
 -- notes suit the conditions
 pub record IsLawfulAtSight (monitor : MonitorParts) (plan : Plan) : Type 0 where
-  pub starts : AllHold (start_of monitor) plan.kept
+  pub starts : HoldAtStart monitor plan.kept
   -- a condition whose guard reads inputs is of kind broadcast, and has only untested broadcasts
   pub reading : (number : ℕ) (condition : Condition) → IsCondition monitor number condition
       → reads_inputs condition.guard ≡ true → WakesAll plan number

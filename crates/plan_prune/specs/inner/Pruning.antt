@@ -2,8 +2,9 @@
 use Rattle.std.specs.Prelude.{◌≡◌, List, [], ◌∷◌, ◌++◌, length, All}
 use Rattle.std.specs.List.{Contains}
 use Rattle.lang_monitor.specs.declared.candidate.Candidate.{Candidate}
-use Rattle.lang_monitor.specs.Candidates.{AllHold, AreSomeOf, candidates_of}
-use Rattle.lang_monitor.specs.MonitorParts.{MonitorParts, start_of}
+use Rattle.lang_monitor.specs.Candidates.{AreSomeOf, candidates_of}
+use Rattle.lang_monitor.specs.MonitorParts.{MonitorParts}
+use Rattle.lang_monitor.specs.Triples.{HoldAtStart}
 use Rattle.plan_prune.specs.declared.kept.Kept.{Kept}
 use Rattle.plan_prune.specs.declared.rounds.Round.{Round}
 use Rattle.plan_prune.specs.Invariants.{AreProofs, ContainsEasy}
@@ -29,7 +30,7 @@ IsTurn monitor hyps candidate round next = (before : List Candidate)
 -- what is known of the candidates that are left
 pub record IsLeft (monitor : MonitorParts) (kept : List Candidate) : Type 0 where
   pub candidates : AreSomeOf kept (candidates_of monitor)
-  pub starts : AllHold (start_of monitor) kept
+  pub starts : HoldAtStart monitor kept
   pub easy : ContainsEasy monitor kept
 
 -- candidates that are left, with as many lists of grounds

@@ -2,8 +2,8 @@
 use Rattle.std.specs.Prelude.{◌≡◌, ◌==◌, ℕ, ◌-◌, ◌<◌, ◌≤◌, Bool, true, false, not, ◌&&◌, ◌||◌, List}
 use Rattle.std.specs.Prelude.{All, Option, Some, None, slice_get, take, IsSomeAnd}
 use Rattle.lang_monitor.specs.declared.candidate.Candidate.{Candidate}
-use Rattle.lang_monitor.specs.Candidates.{AllHold, candidate_truth}
-use Rattle.lang_monitor.specs.MonitorParts.{MonitorParts, start_of}
+use Rattle.lang_monitor.specs.MonitorParts.{MonitorParts}
+use Rattle.lang_monitor.specs.Triples.{HoldAtStart, IsFalseAtStart}
 use Rattle.machine_events.specs.declared.plan.Note.{Note}
 use Rattle.machine_events.specs.declared.plan.Plan.{Plan}
 use Rattle.logic_wp.specs.PlainClaims.{IsConditionNumber}
@@ -13,13 +13,12 @@ use Rattle.report_audit.specs.Findings.{IsSuited}
 
 -- ---- the start
 
--- the candidate at this place is the first that is false at the start; none is
+-- the candidate at this place is the first that is false at some start; none is
 abbrev pub IsFalseAt : MonitorParts → List Candidate → Option ℕ → Type 0
-IsFalseAt monitor kept None = AllHold (start_of monitor) kept
+IsFalseAt monitor kept None = HoldAtStart monitor kept
 IsFalseAt monitor kept (Some place) =
-    IsSomeAnd (slice_get kept place)
-    (λ candidate. candidate_truth (start_of monitor) candidate ≡ false)
-    × AllHold (start_of monitor) (take place kept)
+    IsSomeAnd (slice_get kept place) (IsFalseAtStart monitor)
+    × HoldAtStart monitor (take place kept)
 
 -- ---- conditions
 

@@ -1,4 +1,4 @@
-use Rattle.std.proofs.Common.{FitsSigned, get_or, pos, rules, arith}
+use Rattle.std.proofs.Common.{FitsSigned, get_or, pos, rules}
 use Rattle.std.specs.Int.{w128}
 use Rattle.std.proofs.lemmas.Int.{to_z-of_z}
 use Rattle.plan_candidates.proofs.PoolNumbers.{all_noted, noted}
@@ -12,6 +12,5 @@ loop-number-preserved c =
 
 pub returns : goal.returns
 returns c =
-    let fits : FitsSigned w128 c.args.start = c.ranges.start in
-    all_noted c.args.blocks.now c.args.field c.args.start _ c.deref-number-items.result.now c.in_ok-numbers.numbers.items c.loop-number.pool.items c.loop-number.number-index c.loop-number-test.false
-    c.deref-number-items.ensures.value c.in_ok-numbers.ensures c.loop-number.invariant (grind (arith, to_z-of_z))
+    all_noted c.args.blocks.now c.args.number _ c.deref-number-items.result.now c.in_ok-numbers.numbers.items c.loop-number.pool.items c.loop-number.number-index c.loop-number-test.false
+    c.deref-number-items.ensures.value c.in_ok-numbers.ensures c.loop-number.invariant

@@ -1,27 +1,16 @@
-use Rattle.std.proofs.Common.{rules, FitsSigned}
-use Rattle.std.specs.Int.{w128}
-use Rattle.std.proofs.lemmas.Int.{to_z-of_z}
-use Rattle.plan_candidates.specs.inner.Starts.{starts}
-use Rattle.plan_candidates.proofs.StartTruths.{at_least_is, at_most_is, below_is, flag_is}
+use Rattle.std.proofs.Common.{◌∙◌, ap}
+use Rattle.std.specs.Prelude.{List}
+use Rattle.lang_monitor.specs.declared.monitor.Field.{Field}
+use Rattle.plan_candidates.specs.inner.Starts.{starts_true}
+use Rattle.plan_candidates.proofs.StartTests.{one_fails, one_tested}
 use Rattle.plan_candidates.proofs.starts.is_true_at_start.Goals as goal
 
-pub returns-in-AtMost : goal.returns-in-AtMost
-returns-in-AtMost c =
-    let number : FitsSigned w128 c.start_number.result = search rules in
-    let bound : FitsSigned w128 c.in-AtMost.bound = search rules in
-    simp to_z-of_z (at_most_is (starts c.args.fields.now) c.args.candidate c.in-AtMost.field c.in-AtMost.bound c.start_number.result c.in-AtMost.is c.start_number.ensures)
+pub returns-clause-always : goal.returns-clause-always
+returns-clause-always c =
+    one_tested c.args.monitor.now c.args.candidate c.starts_true.result c.fields.ensures.rule
+    (c.starts_true.ensures ∙ ap (λ (fields : List Field). starts_true fields c.args.candidate) c.fields.ensures.fields)
 
-pub returns-in-AtLeast : goal.returns-in-AtLeast
-returns-in-AtLeast c =
-    let number : FitsSigned w128 c.start_number-in-AtLeast.result = search rules in
-    let bound : FitsSigned w128 c.in-AtLeast.bound = search rules in
-    simp to_z-of_z (at_least_is (starts c.args.fields.now) c.args.candidate c.in-AtLeast.field c.in-AtLeast.bound c.start_number-in-AtLeast.result c.in-AtLeast.is c.start_number-in-AtLeast.ensures)
-
-pub returns-in-Flag : goal.returns-in-Flag
-returns-in-Flag c = flag_is (starts c.args.fields.now) c.args.candidate c.in-Flag.field c.in-Flag.is' c.start_truth.result c.in-Flag.is c.start_truth.ensures
-
-pub returns-in-Below : goal.returns-in-Below
-returns-in-Below c =
-    let left : FitsSigned w128 c.start_number-in-Below.result = search rules in
-    let right : FitsSigned w128 c.start_number-in-Below-2.result = search rules in
-    simp to_z-of_z (below_is (starts c.args.fields.now) c.args.candidate c.in-Below.left c.in-Below.right c.start_number-in-Below.result c.start_number-in-Below-2.result c.in-Below.is c.start_number-in-Below.ensures c.start_number-in-Below-2.ensures)
+pub returns-clause-fails : goal.returns-clause-fails
+returns-clause-fails c =
+    one_fails c.args.monitor.now c.args.candidate c.starts_true.result c.fields.ensures.rule
+    (c.starts_true.ensures ∙ ap (λ (fields : List Field). starts_true fields c.args.candidate) c.fields.ensures.fields)

@@ -5,7 +5,7 @@ use Rattle.plan_candidates.proofs.SomeOf.{some_pass}
 use Rattle.plan_prune.proofs.pruning.invariant.Goals as goal
 
 pub pruned-requires-clause-first : goal.pruned-requires-clause-first
-pruned-requires-clause-first c = rw c.in_ok-first.ensures (left_first c.args.monitor.now)
+pruned-requires-clause-first c = left_first c.args.monitor.now _ c.in_ok-first.ensures
 
 pub returns-clause-invariant : goal.returns-clause-invariant
 returns-clause-invariant c =

@@ -2,8 +2,7 @@ use Rattle.std.proofs.Common.{◌↔◌, IsTrue, subst}
 use Rattle.std.specs.Prelude.{List}
 use Rattle.lang_monitor.specs.declared.candidate.Candidate.{Candidate}
 use Rattle.lang_monitor.specs.declared.monitor.Condition.{Condition}
-use Rattle.lang_monitor.specs.Candidates.{AllHold}
-use Rattle.lang_monitor.specs.MonitorParts.{start_of}
+use Rattle.lang_monitor.specs.Triples.{HoldAtStart}
 use Rattle.machine_events.specs.declared.plan.CondKind.{CondKind}
 use Rattle.machine_events.specs.declared.plan.Note.{Note}
 use Rattle.report_verdict.specs.inner.Sight.{AreKindsSuited, AreListsSuited}
@@ -15,8 +14,8 @@ returns c =
     let monitor = c.args.monitor.now in
     let plan = c.args.plan.now in
     let rule = c.conditions.ensures.rule in
-    let starts : IsTrue c.are_true_at_start-starts.result ↔ AllHold (start_of monitor) plan.kept =
-    subst (λ (kept : List Candidate). IsTrue c.are_true_at_start-starts.result ↔ AllHold (start_of monitor) kept) c.items.ensures c.are_true_at_start-starts.ensures in
+    let starts : IsTrue c.are_true_at_start-starts.result ↔ HoldAtStart monitor plan.kept =
+    subst (λ (kept : List Candidate). IsTrue c.are_true_at_start-starts.result ↔ HoldAtStart monitor kept) c.items.ensures c.are_true_at_start-starts.ensures in
     let kinds : IsTrue c.are_kinds_suited-kinds.result ↔ AreKindsSuited monitor.conditions plan.kinds =
     subst (λ (all : List CondKind). IsTrue c.are_kinds_suited-kinds.result ↔ AreKindsSuited monitor.conditions all) c.items-2.ensures
     (subst (λ (all : List Condition). IsTrue c.are_kinds_suited-kinds.result ↔ AreKindsSuited all c.items-2.result.now) c.conditions.ensures.conditions c.are_kinds_suited-kinds.ensures) in
