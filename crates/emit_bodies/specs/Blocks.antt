@@ -45,7 +45,9 @@ parameter_text method input = taken_text method input.name input.kind []
 
 abbrev pub kind_declared : Decl → Kind
 kind_declared (decls.Const at name value) = kinds.Int
+kind_declared (decls.Param at name value limit) = kinds.Int
 kind_declared (decls.Int at name value) = kinds.Int
+kind_declared (decls.Copied at name source) = kinds.Int
 kind_declared (decls.Flag at name value) = kinds.Bool
 
 abbrev pub local_text : MethodTree → Reach → Decl → List ℕ

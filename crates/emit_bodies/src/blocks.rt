@@ -157,8 +157,10 @@ pub fn kind_declared(declared: &Decl) -> Kind
     ensures { result ≡ kind_declared declared.now }
 {
     match declared {
-        Decl::Const { .. } | Decl::Int { .. } => Kind::Int,
         Decl::Flag { .. } => Kind::Bool,
+        Decl::Const { .. } | Decl::Param { .. } | Decl::Int { .. } | Decl::Copied { .. } => {
+            Kind::Int
+        }
     }
 }
 

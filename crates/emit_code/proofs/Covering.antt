@@ -17,7 +17,7 @@ use Rattle.machine_implicit.specs.declared.commit.Reply.{Reply}
 use Rattle.machine_implicit.specs.declared.commit.Reply.TheVariants as replies
 use Rattle.machine_implicit.specs.declared.script.Call.{Call}
 use Rattle.machine_implicit.specs.declared.place.Place.{Place}
-use Rattle.machine_implicit.specs.Steps.{given, condition_truth}
+use Rattle.machine_implicit.specs.Steps.{given, condition_truth, start_of}
 use Rattle.machine_implicit.specs.Scripted.{calls_of}
 use Rattle.machine_implicit.specs.Places.{block_at, inputs_at, first_place, FitsPlace}
 use Rattle.machine_implicit.proofs.Fitting.{at_index, run_fits}
@@ -384,7 +384,7 @@ asleep_never block condition rest is = cc is
 
 start_covered : (system : System) (told : ℕ → List Op) (timed : ℕ → ℕ → Bool) → HasCountingPlan system → IsCoveredLate system (start (program_with system told timed))
 start_covered system told timed set = record {
-  invariant = set.lawful.inductive.starts;
+  invariant = set.lawful.inductive.starts (start_of system.monitor) set.is.rule.opens;
   pending = record {
     broadcasts = λ client place condition at kind holds. absurd (none_sleeps client place condition at);
     signals = λ client place condition at kind measure counts. absurd (none_sleeps client place condition at);

@@ -36,14 +36,16 @@ seen scope = record {
 -- the constant of this name
 abbrev pub is_constant : List ℕ → Decl → Bool
 is_constant name (decls.Const at other value) = bytes_eq other name
+is_constant name (decls.Param at other value limit) = false
 is_constant name (decls.Int at other value) = false
+is_constant name (decls.Copied at other source) = false
 is_constant name (decls.Flag at other value) = false
 
 -- it declares this name
 abbrev pub declares : List ℕ → Decl → Bool
 declares name declared = bytes_eq (declared_name declared) name
 
--- by whether it is that of a constant, of any declaration, and of a local
+-- by whether it is that of a constant, of any declaration (a field, a parameter), and of a local
 abbrev pub meaning_by : Bool → Bool → Bool → Meaning
 meaning_by constant declared local =
     if constant then meanings.Constant
@@ -63,9 +65,12 @@ lent_text reaches.Lent = codes "*"
 lent_text reaches.Held = []
 lent_text reaches.Unread = []
 
+-- `Buffer::CAP`
+abbrev pub constant_name : MonitorTree → List ℕ → List ℕ
+constant_name tree name = type_name tree ++ codes "::" ++ member_name tree styles.Upper name
+
 abbrev pub meaning_text : ScopeParts → List ℕ → Meaning → List ℕ
-meaning_text scope name meanings.Constant =
-    type_name scope.tree ++ codes "::" ++ member_name scope.tree styles.Upper name
+meaning_text scope name meanings.Constant = constant_name scope.tree name
 meaning_text scope name meanings.Field =
     scope.receiver ++ codes "." ++ member_name scope.tree styles.Snake name
 meaning_text scope name meanings.Parameter = input_name scope.method name

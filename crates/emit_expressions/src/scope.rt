@@ -2,11 +2,11 @@
 
 ghost use Rattle.std.specs.Prelude.{◌≡◌, ◌++◌, codes};
 ghost use Rattle.std.specs.List.{list_any};
-ghost use Rattle.emit_expressions.specs.Scopes.{declares, is_constant, is_reached, is_read};
+ghost use Rattle.emit_expressions.specs.Scopes.{constant_name, declares, is_constant, is_reached};
 ghost use Rattle.emit_expressions.specs.Scopes.{lent_text, meaning_by, meaning_of, meaning_text};
 ghost use Rattle.emit_expressions.specs.Scopes.{name_text, is_variable_name, reaches_inputs, seen};
-ghost use Rattle.emit_expressions.specs.Scopes.{varies};
-ghost use Rattle.emit_names.specs.Names.{input_name, member_name, type_name};
+ghost use Rattle.emit_expressions.specs.Scopes.{is_read, varies};
+ghost use Rattle.emit_names.specs.Names.{input_name, member_name};
 ghost use Rattle.emit_names.specs.declared.style.Style.TheVariants as styles;
 ghost use Rattle.base_io.specs.Writing.{Wrote};
 
@@ -73,10 +73,15 @@ fn write_meaning<S: Sink>(
     }
 }
 
-// `Buffer::CAP`
-fn write_constant<S: Sink>(tree: &MonitorTree, name: &Name, out: &mut S) -> Result<(), SinkFailed>
-    ensures { Wrote (S.seen out.old) (S.seen out.new) result
-        (type_name tree.now ++ codes "::" ++ member_name tree.now styles.Upper name.now) }
+/// Writes what a constant is in Rust: `Buffer::CAP`. It takes no memory.
+///
+/// After `SinkFailed` the first bytes were taken, fewer than all and maybe none.
+pub fn write_constant<S: Sink>(
+    tree: &MonitorTree,
+    name: &Name,
+    out: &mut S,
+) -> Result<(), SinkFailed>
+    ensures { Wrote (S.seen out.old) (S.seen out.new) result (constant_name tree.now name.now) }
 {
     write_type(tree, out)?;
     write_piece(b"::", out)?;
@@ -178,7 +183,8 @@ fn meaning_by(constant: bool, declared: bool, local: bool) -> Meaning
     }
 }
 
-fn any_is_constant(declared: &[Decl], name: &[u8]) -> bool
+/// Whether a name is that of a constant among these declarations.
+pub fn any_is_constant(declared: &[Decl], name: &[u8]) -> bool
     ensures { result ≡ list_any (is_constant name.now) declared.now }
 {
     declared.iter().any(|one| is_constant(name, one))
@@ -189,7 +195,7 @@ fn is_constant(name: &[u8], declared: &Decl) -> bool
 {
     match declared {
         Decl::Const { name: other, .. } => other.bytes() == name,
-        Decl::Int { .. } | Decl::Flag { .. } => false,
+        Decl::Param { .. } | Decl::Int { .. } | Decl::Copied { .. } | Decl::Flag { .. } => false,
     }
 }
 

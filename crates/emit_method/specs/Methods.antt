@@ -4,18 +4,17 @@ use Rattle.std.specs.Prelude.{Option, Some, None, slice_get, if◌then◌else◌
 use Rattle.std.specs.List.{flat_map}
 use Rattle.lang_base.specs.declared.kind.Kind.{Kind}
 use Rattle.lang_tree.specs.declared.tree.Decl.{Decl}
-use Rattle.lang_tree.specs.declared.tree.Decl.TheVariants as decls
 use Rattle.lang_tree.specs.declared.tree.MethodTree.{MethodTree}
 use Rattle.lang_tree.specs.declared.tree.MonitorTree.{MonitorTree}
 use Rattle.lang_tree.specs.Names.{declared_name}
-use Rattle.lang_printer.specs.Canonical.{literal_text, truth_text}
 use Rattle.lang_monitor.specs.MonitorParts.{MonitorParts, asserts_in, first_in, count_in}
 use Rattle.machine_events.specs.Configurations.{block_condition}
 use Rattle.emit_code.specs.Code.{Op, is_guarded, is_waited_on, code_of}
 use Rattle.emit_names.specs.Names.{are_lasting_free, are_lasting_with_free, is_try_free}
 use Rattle.emit_names.specs.Names.{is_try_with_free, is_with_free, input_name}
-use Rattle.emit_bodies.specs.Blocks.{kind_declared, kind_text, parameter_text}
+use Rattle.emit_bodies.specs.Blocks.{kind_text, parameter_text}
 use Rattle.emit_bodies.specs.Bodies.{answer_text, arrow_text}
+use Rattle.emit_choices.specs.Declarations.{typed_start}
 use Rattle.emit_statements.specs.Sources.{SourceParts, answer_of}
 use Rattle.emit_statements.specs.Statements.{MethodParts, first_of, method_fails, ops_text}
 use Rattle.emit_statements.specs.Statements.{end_text}
@@ -27,17 +26,6 @@ use Rattle.emit_method.specs.Docs.{docs_text}
 use Rattle.emit_method.specs.Lasting.{lasting_lines}
 
 -- ---- locals
-
--- the value of a declaration
-abbrev pub start_text : Decl → List ℕ
-start_text (decls.Const at name value) = literal_text value
-start_text (decls.Int at name value) = literal_text value
-start_text (decls.Flag at name value) = truth_text value
-
--- `: i64 = 0`
-abbrev pub typed_start : Decl → List ℕ
-typed_start declared =
-    codes ": " ++ kind_text (kind_declared declared) ++ codes " = " ++ start_text declared
 
 -- `let mut seen: i64 = 0;`
 abbrev pub local_line : MethodTree → Decl → List ℕ

@@ -5,19 +5,16 @@
 //! and with each of them one whose calls are given a function, as `specs/Methods` says: what it is
 //! called (`specs/Called`), what is said of it (`specs/Docs`), its head and locals, and the
 //! statements of its code, which `emit_statements` writes. One for calls that wait for a time calls
-//! two of the others (`specs/Lasting`). The other calls write parts that the rest of the module has
-//! too, the type and the value of a declaration, and say whether a method has calls that try, or
+//! two of the others (`specs/Lasting`). The other calls say whether a method has calls that try, or
 //! that have a time. By [`functions_run_last`] the text calls the function of a call with the last
 //! body of its code (`specs/Laws`).
 #![tactic(auto)]
 
 mod called;
-mod declared;
 mod docs;
 mod lasting;
 mod laws;
 mod methods;
 
-pub use declared::{write_start, write_typed_start};
 pub use laws::functions_run_last;
 pub use methods::{has_times, has_try, refuses, write_methods_of};

@@ -19,11 +19,11 @@ ghost use Rattle.emit_method.specs.Methods.{try_text, waits_first, with_text, wo
 ghost use Rattle.emit_method.specs.inner.Parts.{calls_text};
 
 use crate::called::write_called;
-use crate::declared::write_typed_start;
 use crate::docs::write_docs;
 use crate::lasting::write_lasting_lines;
 use base_io::{Sink, SinkFailed, write_piece, write_pieces};
 use emit_bodies::{kind_bytes, write_arrow, write_parameters};
+use emit_choices::write_typed_start;
 use emit_names::{
     are_lasting_free, are_lasting_with_free, is_try_free, is_try_with_free, is_with_free,
     write_input,

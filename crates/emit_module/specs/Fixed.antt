@@ -11,25 +11,12 @@ HEAD =
     codes ".\n// Change the monitor, and not this file. "
     ++ codes "It wants Rust 1.65 and the edition 2021, or later ones.\n\n"
 
--- the monitor with no data, and the end of its `impl`
-abbrev pub NEW : List ℕ
-NEW =
-    codes "    /// The monitor at its start.\n    #[must_use]\n"
-    ++ codes "    pub const fn new() -> Self {\n        Self::with_data(())\n    }\n}\n\n"
-
 -- before the functions of a monitor with data
 abbrev pub WITH : List ℕ
 WITH =
     codes "#[rustfmt::skip]\n"
     ++ codes "#[allow(dead_code, non_snake_case)]\n"
     ++ codes "#[allow(clippy::doc_markdown, clippy::style, clippy::too_many_arguments)]\nimpl<D> "
-
--- the monitor with data, up to the counts at their start
-abbrev pub WITH_DATA : List ℕ
-WITH_DATA =
-    codes "    /// The monitor at its start, with these data.\n    #[must_use]\n"
-    ++ codes "    pub const fn with_data(data: D) -> Self {\n        Self {\n"
-    ++ codes "            inner: Mutex::new(Inner {\n                state: State::START,\n"
 
 -- what else is done with the data
 abbrev pub DATA : List ℕ

@@ -17,7 +17,7 @@ use Rattle.emit_code.specs.Code.{is_always, is_guarded}
 use Rattle.emit_comments.specs.Comments.{comment_docs, first_line, has_comments, leading_docs}
 use Rattle.emit_comments.specs.Comments.{line_of}
 use Rattle.emit_names.specs.declared.style.Style.TheVariants as styles
-use Rattle.emit_names.specs.Names.{member_name, type_name}
+use Rattle.emit_names.specs.Names.{has_parameters, member_name, type_name}
 use Rattle.emit_names.specs.Lints.{has_odd_name}
 use Rattle.emit_bodies.specs.Blocks.{kind_declared, kind_text}
 use Rattle.emit_bodies.specs.Bodies.{body_text}
@@ -25,8 +25,11 @@ use Rattle.emit_bodies.specs.Guards.{guard_text}
 use Rattle.emit_statements.specs.Sources.{SourceParts, source_of, answer_of, is_whole, tests_alone}
 use Rattle.emit_statements.specs.Conditions.{around_count, around_name, first_block}
 use Rattle.emit_statements.specs.Statements.{method_fails, method_shortens}
-use Rattle.emit_method.specs.Methods.{has_times, methods_text, refuses, start_text, typed_start}
-use Rattle.emit_module.specs.Fixed.{VERSION, HEAD, NEW, WITH, WITH_DATA, DATA, DEFAULT, DEBUG}
+use Rattle.emit_choices.specs.Declarations.{is_field, typed_start}
+use Rattle.emit_choices.specs.Openings.{new_text, with_data_text}
+use Rattle.emit_choices.specs.Starts.{brace_text, starts_text}
+use Rattle.emit_method.specs.Methods.{has_times, methods_text, refuses}
+use Rattle.emit_module.specs.Fixed.{VERSION, HEAD, WITH, DATA, DEFAULT, DEBUG}
 use Rattle.emit_module.specs.Fixed.{DEBUG_END, INNER, COPY, COPY_END, STATE, STATE_IMPL, LOCK, WAIT}
 use Rattle.emit_module.specs.Fixed.{TIMES, OVERFLOW, REFUSED, FAILED, WHOLE}
 
@@ -134,12 +137,6 @@ struct_text source =
 
 -- ---- its functions
 
--- a declaration is that of a field, and not of a constant
-abbrev pub is_field : Decl → Bool
-is_field (decls.Const at name value) = false
-is_field (decls.Int at name value) = true
-is_field (decls.Flag at name value) = true
-
 -- what is said of a constant with no comment
 abbrev pub plain_docs : Decl → List ℕ
 plain_docs declared = codes "    /// The constant `" ++ declared_name declared ++ codes "`.\n"
@@ -157,11 +154,13 @@ constant_text source at declared =
     ++ member_name source.tree styles.Upper (declared_name declared) ++ typed_start declared
     ++ codes ";\n"
 
--- nothing for a field
+-- nothing for a field or a parameter
 abbrev pub constant_line : SourceParts → Decl → List ℕ
 constant_line source (decls.Const at name value) =
     constant_text source at (decls.Const at name value)
+constant_line source (decls.Param at name value limit) = []
 constant_line source (decls.Int at name value) = []
+constant_line source (decls.Copied at name other) = []
 constant_line source (decls.Flag at name value) = []
 
 -- an empty line comes after the last
@@ -176,9 +175,9 @@ constants_text source =
     ++ constants_end (list_any (λ one. not (is_field one)) source.tree.decls)
 
 -- a monitor at its start, with data
-abbrev pub with_data_text : SourceParts → List ℕ
-with_data_text source =
-    WITH_DATA
+abbrev pub opening_text : SourceParts → List ℕ
+opening_text source =
+    with_data_text source.text source.tree
     ++ flat_map (λ one. count_start source one.0 one.1)
     (enumerate_from 0 source.monitor.conditions)
     ++ codes "                data,\n            }),\n"
@@ -192,12 +191,12 @@ abbrev pub own_impl : SourceParts → List ℕ
 own_impl source =
     codes "#[rustfmt::skip]\n#[allow(dead_code, clippy::doc_markdown, clippy::style)]\n"
     ++ lints_text source.tree ++ codes "impl " ++ type_name source.tree ++ codes " {\n"
-    ++ constants_text source ++ NEW
+    ++ constants_text source ++ new_text source.text source.tree
 
 -- those of one with any data
 abbrev pub with_impl : SourceParts → List ℕ
 with_impl source =
-    WITH ++ type_name source.tree ++ codes "<D> {\n" ++ with_data_text source ++ DATA
+    WITH ++ type_name source.tree ++ codes "<D> {\n" ++ opening_text source ++ DATA
     ++ flat_map (λ one. methods_text source one.0 one.1) (enumerate_from 0 source.tree.methods)
     ++ codes "}\n\n"
 
@@ -205,9 +204,13 @@ with_impl source =
 abbrev pub impl_text : SourceParts → List ℕ
 impl_text source = own_impl source ++ with_impl source
 
--- the same by `Default`
-abbrev pub default_text : SourceParts → List ℕ
-default_text source = codes "impl Default for " ++ type_name source.tree ++ DEFAULT
+-- the same by `Default`, where nothing is to be chosen
+abbrev pub default_by : MonitorTree → Bool → List ℕ
+default_by tree true = []
+default_by tree false = codes "impl Default for " ++ type_name tree ++ DEFAULT
+
+abbrev pub default_text : MonitorTree → List ℕ
+default_text tree = default_by tree (has_parameters tree)
 
 -- It shows a copy of the state, since the caller's own code runs in it, which may call the monitor;
 -- and it waits for nobody, since it may be called by who has the mutex.
@@ -218,7 +221,7 @@ debug_text source =
 
 -- what the type is by traits of `std`
 abbrev pub traits_text : SourceParts → List ℕ
-traits_text source = default_text source ++ debug_text source
+traits_text source = default_text source.tree ++ debug_text source
 
 -- ---- what the mutex guards
 
@@ -246,15 +249,6 @@ field_text tree declared =
 abbrev pub field_line : MonitorTree → Decl → List ℕ
 field_line tree declared = if is_field declared then field_text tree declared else []
 
--- a brace, with lines after it where there are fields
-abbrev pub brace_by : Bool → List ℕ
-brace_by true = codes "{\n"
-brace_by false = codes "{"
-
--- the brace of this monitor
-abbrev pub brace_text : MonitorTree → List ℕ
-brace_text tree = brace_by (list_any is_field tree.decls)
-
 -- the struct of the state
 abbrev pub state_text : MonitorTree → List ℕ
 state_text tree =
@@ -262,31 +256,6 @@ state_text tree =
     ++ flat_map (field_line tree) tree.decls ++ codes "}\n\n"
 
 -- ---- the functions of the state
-
--- `count: 0,`
-abbrev pub field_start : MonitorTree → Decl → List ℕ
-field_start tree declared =
-    codes "        " ++ member_name tree styles.Snake (declared_name declared) ++ codes ": "
-    ++ start_text declared ++ codes ",\n"
-
--- nothing for a constant
-abbrev pub start_line : MonitorTree → Decl → List ℕ
-start_line tree declared = if is_field declared then field_start tree declared else []
-
--- the end of the fields, where there are any
-abbrev pub starts_end_by : Bool → List ℕ
-starts_end_by true = codes "    };\n"
-starts_end_by false = codes "};\n"
-
--- the end of the fields of this monitor
-abbrev pub starts_end : MonitorTree → List ℕ
-starts_end tree = starts_end_by (list_any is_field tree.decls)
-
--- the state at the start
-abbrev pub starts_text : MonitorTree → List ℕ
-starts_text tree =
-    codes "    const START: Self = Self " ++ brace_text tree
-    ++ flat_map (start_line tree) tree.decls ++ starts_end tree
 
 -- the block is the one that was found first
 abbrev pub is_first : Option ℕ → ℕ → Bool

@@ -1,12 +1,11 @@
-//! Declarations: their lints, and which of them are fields.
+//! The lints of declarations.
 
-ghost use Rattle.std.specs.Prelude.{◌≡◌};
 ghost use Rattle.base_io.specs.Writing.{Wrote};
-ghost use Rattle.emit_module.specs.Modules.{is_field, lints_text};
+ghost use Rattle.emit_module.specs.Modules.{lints_text};
 
 use base_io::{Sink, SinkFailed, write_piece};
 use emit_names::has_odd_name;
-use lang_tree::{Decl, MonitorTree};
+use lang_tree::MonitorTree;
 
 /// Writes what keeps lints from names that are written as they stand.
 pub(crate) fn write_lints<S: Sink>(tree: &MonitorTree, out: &mut S) -> Result<(), SinkFailed>
@@ -16,14 +15,4 @@ pub(crate) fn write_lints<S: Sink>(tree: &MonitorTree, out: &mut S) -> Result<()
         return Ok(());
     }
     write_piece(b"#[allow(non_snake_case, non_upper_case_globals)]\n", out)
-}
-
-/// Whether a declaration is that of a field, and not of a constant.
-pub(crate) fn is_field(declared: &Decl) -> bool
-    ensures { result ≡ is_field declared.now }
-{
-    match declared {
-        Decl::Const { .. } => false,
-        Decl::Int { .. } | Decl::Flag { .. } => true,
-    }
 }

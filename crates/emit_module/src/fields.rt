@@ -5,26 +5,17 @@ ghost use Rattle.std.specs.List.{enumerate_from, flat_map};
 ghost use Rattle.lang_base.specs.Limits.{CONDITIONS};
 ghost use Rattle.base_io.specs.Writing.{Wrote};
 ghost use Rattle.emit_statements.specs.Sources.{seen};
-ghost use Rattle.emit_module.specs.Modules.{waited_field};
-ghost use Rattle.emit_module.specs.inner.Lines.{condition_at, condition_line_at, field_at};
-ghost use Rattle.emit_module.specs.inner.Lines.{copied_count, indent_at, line_at, said_at};
+ghost use Rattle.emit_module.specs.Modules.{field_line, field_text, waited_field};
+ghost use Rattle.emit_module.specs.inner.Lines.{condition_at, condition_line_at, copied_count};
 
-use crate::declared::is_field;
 use base_io::{Sink, SinkFailed, write_piece, write_pieces};
 use emit_bodies::{kind_bytes, kind_declared};
-use emit_method::write_start;
+use emit_choices::is_field;
 use emit_names::{Style, write_member};
 use emit_statements::{Source, is_always, write_around_count, write_around_name};
 use lang_base::Named;
 use lang_monitor::Condition;
 use lang_tree::{Decl, MonitorTree};
-
-/// Where a line of a field stands: in the struct, with its type, or at the start, with its value.
-#[derive(Clone, Copy)]
-pub(crate) enum FieldLine {
-    InStruct,
-    AtStart,
-}
 
 /// What a line of a condition says: of its condition variable, or of how many sleep on it, as a
 /// field or at its start, or in a copy.
@@ -41,68 +32,38 @@ pub(crate) enum ConditionLine {
 
 /// Writes the lines of the fields of the state.
 pub(crate) fn write_fields<S: Sink>(
-    line: FieldLine,
     tree: &MonitorTree,
     declared: &[Decl],
     out: &mut S,
 ) -> Result<(), SinkFailed>
     ensures { Wrote (S.seen out.old) (S.seen out.new) result
-        (flat_map (line_at line tree.now) declared.now) }
+        (flat_map (field_line tree.now) declared.now) }
 {
     for one in declared {
-        write_line(line, tree, one, out)?;
+        write_line(tree, one, out)?;
     }
     Ok(())
 }
 
 // Nothing for a constant.
-fn write_line<S: Sink>(
-    line: FieldLine,
-    tree: &MonitorTree,
-    declared: &Decl,
-    out: &mut S,
-) -> Result<(), SinkFailed>
-    ensures { Wrote (S.seen out.old) (S.seen out.new) result (line_at line tree.now declared.now) }
+fn write_line<S: Sink>(tree: &MonitorTree, declared: &Decl, out: &mut S) -> Result<(), SinkFailed>
+    ensures { Wrote (S.seen out.old) (S.seen out.new) result (field_line tree.now declared.now) }
 {
     if !is_field(declared) {
         return Ok(());
     }
-    write_field(line, tree, declared, out)
+    write_field(tree, declared, out)
 }
 
-// `count: i64,` or `count: 0,`
-fn write_field<S: Sink>(
-    line: FieldLine,
-    tree: &MonitorTree,
-    declared: &Decl,
-    out: &mut S,
-) -> Result<(), SinkFailed>
-    ensures { Wrote (S.seen out.old) (S.seen out.new) result (field_at line tree.now declared.now) }
+// `count: i64,`
+fn write_field<S: Sink>(tree: &MonitorTree, declared: &Decl, out: &mut S) -> Result<(), SinkFailed>
+    ensures { Wrote (S.seen out.old) (S.seen out.new) result (field_text tree.now declared.now) }
 {
-    write_piece(indent_bytes(line), out)?;
+    write_piece(b"    ", out)?;
     write_member(tree, Style::Snake, declared.name(), out)?;
     write_piece(b": ", out)?;
-    write_said(line, declared, out)?;
+    write_piece(kind_bytes(kind_declared(declared)), out)?;
     write_piece(b",\n", out)
-}
-
-// The type of a field, or its value.
-fn write_said<S: Sink>(line: FieldLine, declared: &Decl, out: &mut S) -> Result<(), SinkFailed>
-    ensures { Wrote (S.seen out.old) (S.seen out.new) result (said_at line declared.now) }
-{
-    match line {
-        FieldLine::InStruct => write_piece(kind_bytes(kind_declared(declared)), out),
-        FieldLine::AtStart => write_start(declared, out),
-    }
-}
-
-fn indent_bytes(line: FieldLine) -> &'static [u8]
-    ensures { result.now ≡ indent_at line }
-{
-    match line {
-        FieldLine::InStruct => b"    ",
-        FieldLine::AtStart => b"        ",
-    }
 }
 
 // ---- the lines of conditions

@@ -2,8 +2,8 @@
 
 ghost use Rattle.std.specs.Prelude.{◌≡◌};
 ghost use Rattle.emit_module.specs.Fixed.{COPY, COPY_END, DATA, DEBUG, DEBUG_END, DEFAULT, FAILED};
-ghost use Rattle.emit_module.specs.Fixed.{HEAD, INNER, LOCK, NEW, OVERFLOW, REFUSED, STATE};
-ghost use Rattle.emit_module.specs.Fixed.{STATE_IMPL, TIMES, VERSION, WAIT, WHOLE, WITH, WITH_DATA};
+ghost use Rattle.emit_module.specs.Fixed.{HEAD, INNER, LOCK, OVERFLOW, REFUSED, STATE};
+ghost use Rattle.emit_module.specs.Fixed.{STATE_IMPL, TIMES, VERSION, WAIT, WHOLE, WITH};
 
 /// The program's version, which the head of a module names.
 pub fn version_bytes() -> &'static [u8]
@@ -18,20 +18,6 @@ pub(crate) fn head_bytes() -> &'static [u8]
 {
     b".
 // Change the monitor, and not this file. It wants Rust 1.65 and the edition 2021, or later ones.
-
-"
-}
-
-/// The monitor with no data, and the end of its `impl`.
-pub(crate) fn new_bytes() -> &'static [u8]
-    ensures { result.now ≡ NEW }
-{
-    b"    /// The monitor at its start.
-    #[must_use]
-    pub const fn new() -> Self {
-        Self::with_data(())
-    }
-}
 
 "
 }
@@ -68,19 +54,6 @@ pub(crate) fn data_bytes() -> &'static [u8]
     pub fn is_poisoned(&self) -> bool {
         self.inner.is_poisoned()
     }
-"
-}
-
-/// The monitor with data, up to the counts at their start.
-pub(crate) fn with_data_bytes() -> &'static [u8]
-    ensures { result.now ≡ WITH_DATA }
-{
-    b"    /// The monitor at its start, with these data.
-    #[must_use]
-    pub const fn with_data(data: D) -> Self {
-        Self {
-            inner: Mutex::new(Inner {
-                state: State::START,
 "
 }
 

@@ -10,26 +10,28 @@ ghost use Rattle.emit_method.specs.Methods.{has_times, methods_text};
 ghost use Rattle.emit_module.specs.Fixed.{FAILED, REFUSED, TIMES};
 ghost use Rattle.emit_module.specs.Modules.{constant_docs, constant_line, constant_text};
 ghost use Rattle.emit_module.specs.Modules.{constants_end, constants_text, debug_text};
-ghost use Rattle.emit_module.specs.Modules.{default_text, fails_somewhere, functions_text};
-ghost use Rattle.emit_module.specs.Modules.{has_calls, head_text, impl_text, is_field, module_text};
+ghost use Rattle.emit_choices.specs.Declarations.{is_field};
+ghost use Rattle.emit_module.specs.Modules.{default_by, default_text, fails_somewhere};
+ghost use Rattle.emit_module.specs.Modules.{functions_text, has_calls, head_text, impl_text};
+ghost use Rattle.emit_module.specs.Modules.{module_text, opening_text};
 ghost use Rattle.emit_module.specs.Modules.{own_impl, plain_docs, refuses_so, refuses_somewhere};
 ghost use Rattle.emit_module.specs.Modules.{rust_text, shortens_somewhere, struct_docs};
 ghost use Rattle.emit_module.specs.Modules.{struct_head, struct_text, text_if, traits_text, use_by};
 ghost use Rattle.emit_module.specs.Modules.{times_somewhere, use_text, use_times, waits_somewhere};
-ghost use Rattle.emit_module.specs.Modules.{with_data_text, with_impl};
+ghost use Rattle.emit_module.specs.Modules.{with_impl};
 
-use crate::declared::{is_field, write_lints};
+use crate::declared::write_lints;
 use crate::fields::{ConditionLine, write_conditions};
 use crate::fixed::{
     data_bytes, debug_bytes, debug_end, default_bytes, failed_bytes, head_bytes, lock_bytes,
-    new_bytes, overflow_bytes, refused_bytes, times_bytes, version_bytes, wait_bytes, whole_bytes,
-    with_bytes, with_data_bytes,
+    overflow_bytes, refused_bytes, times_bytes, version_bytes, wait_bytes, whole_bytes, with_bytes,
 };
 use crate::state::{write_inner, write_state, write_state_impl};
 use base_io::{Sink, SinkFailed, write_piece};
+use emit_choices::{is_field, write_new, write_typed_start, write_with_data};
 use emit_comments::{first_line, has_comments, line_of, write_comments, write_leading};
-use emit_method::{has_times, refuses, write_methods_of, write_typed_start};
-use emit_names::{Style, write_member, write_type};
+use emit_method::{has_times, refuses, write_methods_of};
+use emit_names::{Style, has_parameters, write_member, write_type};
 use emit_statements::{Source, is_always, method_fails, method_shortens};
 use lang_base::Named;
 use lang_monitor::{Condition, Monitor};
@@ -208,7 +210,7 @@ fn write_own_impl<S: Sink>(source: &Source, out: &mut S) -> Result<(), SinkFaile
     write_type(source.tree, out)?;
     write_piece(b" {\n", out)?;
     write_constants(source, out)?;
-    write_piece(new_bytes(), out)
+    write_new(source.text, source.tree, out)
 }
 
 // Of one with any data.
@@ -218,7 +220,7 @@ fn write_with_impl<S: Sink>(source: &Source, out: &mut S) -> Result<(), SinkFail
     write_piece(with_bytes(), out)?;
     write_type(source.tree, out)?;
     write_piece(b"<D> {\n", out)?;
-    write_with_data(source, out)?;
+    write_opening(source, out)?;
     write_piece(data_bytes(), out)?;
     write_methods(source, source.tree.methods.items(), out)?;
     write_piece(b"}\n\n", out)
@@ -255,7 +257,9 @@ fn write_constant_line<S: Sink>(
 {
     match declared {
         Decl::Const { at, .. } => write_constant(source, *at, declared, out),
+        Decl::Param { .. } => Ok(()),
         Decl::Int { .. } => Ok(()),
+        Decl::Copied { .. } => Ok(()),
         Decl::Flag { .. } => Ok(()),
     }
 }
@@ -313,10 +317,10 @@ fn constants_end(any: bool) -> &'static [u8]
     if any { b"\n" } else { b"" }
 }
 
-fn write_with_data<S: Sink>(source: &Source, out: &mut S) -> Result<(), SinkFailed>
-    ensures { Wrote (S.seen out.old) (S.seen out.new) result (with_data_text (seen source.now)) }
+fn write_opening<S: Sink>(source: &Source, out: &mut S) -> Result<(), SinkFailed>
+    ensures { Wrote (S.seen out.old) (S.seen out.new) result (opening_text (seen source.now)) }
 {
-    write_piece(with_data_bytes(), out)?;
+    write_with_data(source.text, source.tree, out)?;
     let conditions = source.monitor.conditions();
     write_conditions(ConditionLine::NewCount, source, conditions, out)?;
     write_piece(b"                data,\n            }),\n", out)?;
@@ -342,15 +346,25 @@ fn write_methods<S: Sink>(
 fn write_traits<S: Sink>(source: &Source, out: &mut S) -> Result<(), SinkFailed>
     ensures { Wrote (S.seen out.old) (S.seen out.new) result (traits_text (seen source.now)) }
 {
-    write_default(source, out)?;
+    write_default(source.tree, out)?;
     write_debug(source, out)
 }
 
-fn write_default<S: Sink>(source: &Source, out: &mut S) -> Result<(), SinkFailed>
-    ensures { Wrote (S.seen out.old) (S.seen out.new) result (default_text (seen source.now)) }
+// Nothing where parameters are to be chosen.
+fn write_default<S: Sink>(tree: &MonitorTree, out: &mut S) -> Result<(), SinkFailed>
+    ensures { Wrote (S.seen out.old) (S.seen out.new) result (default_text tree.now) }
+{
+    if has_parameters(tree) {
+        return Ok(());
+    }
+    write_own_default(tree, out)
+}
+
+fn write_own_default<S: Sink>(tree: &MonitorTree, out: &mut S) -> Result<(), SinkFailed>
+    ensures { Wrote (S.seen out.old) (S.seen out.new) result (default_by tree.now false) }
 {
     write_piece(b"impl Default for ", out)?;
-    write_type(source.tree, out)?;
+    write_type(tree, out)?;
     write_piece(default_bytes(), out)
 }
 

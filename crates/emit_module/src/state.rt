@@ -2,29 +2,28 @@
 //! body, and how many sleep on each condition.
 
 ghost use Rattle.std.specs.Prelude.{◌≡◌, ◌<◌, ◌^◌, ◌++◌, codes};
-ghost use Rattle.std.specs.List.{enumerate_from, flat_map, list_any};
+ghost use Rattle.std.specs.List.{enumerate_from, flat_map};
 ghost use Rattle.emit_bodies.specs.Bodies.{body_text};
 ghost use Rattle.emit_bodies.specs.Guards.{guard_text};
 ghost use Rattle.base_io.specs.Writing.{Wrote};
 ghost use Rattle.emit_statements.specs.Sources.{seen};
-ghost use Rattle.emit_module.specs.Modules.{block_functions, body_function, brace_by, brace_text};
-ghost use Rattle.emit_module.specs.Modules.{inner_text, is_field, is_first};
-ghost use Rattle.emit_module.specs.Modules.{method_functions, starts_end, starts_end_by};
-ghost use Rattle.emit_module.specs.Modules.{starts_text, state_impl_text};
+ghost use Rattle.emit_module.specs.Modules.{block_functions, body_function, inner_text, is_first};
+ghost use Rattle.emit_module.specs.Modules.{method_functions, state_impl_text};
 ghost use Rattle.emit_module.specs.Modules.{state_text, test_function};
 ghost use Rattle.emit_module.specs.Modules.{tests_guard};
 
-use crate::declared::{is_field, write_lints};
-use crate::fields::{ConditionLine, FieldLine, write_conditions, write_fields};
+use crate::declared::write_lints;
+use crate::fields::{ConditionLine, write_conditions, write_fields};
 use crate::fixed::{copy_bytes, copy_end, inner_bytes, state_bytes, state_impl_bytes};
 use base_io::{Sink, SinkFailed, write_piece};
 use emit_bodies::{write_body, write_guard};
+use emit_choices::{write_brace, write_starts};
 use emit_statements::{
     Source, answer_of, condition_of, first_block, first_of, is_guarded, is_whole, tests_alone,
 };
 use lang_base::Kind;
 use lang_monitor::Monitor;
-use lang_tree::{BlockTree, Decl, Expr, MethodTree, MonitorTree, StmtTree};
+use lang_tree::{BlockTree, Expr, MethodTree, MonitorTree, StmtTree};
 
 /// Writes the struct of what the mutex guards, and the copy that is made of it.
 pub(crate) fn write_inner<S: Sink>(source: &Source, out: &mut S) -> Result<(), SinkFailed>
@@ -48,27 +47,8 @@ pub(crate) fn write_state<S: Sink>(tree: &MonitorTree, out: &mut S) -> Result<()
     write_lints(tree, out)?;
     write_piece(b"struct State ", out)?;
     write_brace(tree, out)?;
-    write_fields(FieldLine::InStruct, tree, tree.decls.items(), out)?;
+    write_fields(tree, tree.decls.items(), out)?;
     write_piece(b"}\n\n", out)
-}
-
-fn has_field(declared: &[Decl]) -> bool
-    ensures { result ≡ list_any is_field declared.now }
-{
-    declared.iter().any(|one| is_field(one))
-}
-
-// A brace, with lines after it where there are fields.
-fn write_brace<S: Sink>(tree: &MonitorTree, out: &mut S) -> Result<(), SinkFailed>
-    ensures { Wrote (S.seen out.old) (S.seen out.new) result (brace_text tree.now) }
-{
-    write_piece(brace_bytes(has_field(tree.decls.items())), out)
-}
-
-fn brace_bytes(any: bool) -> &'static [u8]
-    ensures { result.now ≡ brace_by any }
-{
-    if any { b"{\n" } else { b"{" }
 }
 
 /// Writes the functions of the state.
@@ -81,27 +61,6 @@ pub(crate) fn write_state_impl<S: Sink>(source: &Source, out: &mut S) -> Result<
     write_starts(source.tree, out)?;
     write_functions_of_blocks(source, source.tree.methods.items(), out)?;
     write_piece(b"}\n", out)
-}
-
-fn write_starts<S: Sink>(tree: &MonitorTree, out: &mut S) -> Result<(), SinkFailed>
-    ensures { Wrote (S.seen out.old) (S.seen out.new) result (starts_text tree.now) }
-{
-    write_piece(b"    const START: Self = Self ", out)?;
-    write_brace(tree, out)?;
-    write_fields(FieldLine::AtStart, tree, tree.decls.items(), out)?;
-    write_starts_end(tree, out)
-}
-
-fn write_starts_end<S: Sink>(tree: &MonitorTree, out: &mut S) -> Result<(), SinkFailed>
-    ensures { Wrote (S.seen out.old) (S.seen out.new) result (starts_end tree.now) }
-{
-    write_piece(starts_end_bytes(has_field(tree.decls.items())), out)
-}
-
-fn starts_end_bytes(any: bool) -> &'static [u8]
-    ensures { result.now ≡ starts_end_by any }
-{
-    if any { b"    };\n" } else { b"};\n" }
 }
 
 // ---- the functions of the state

@@ -9,8 +9,8 @@ use Rattle.std.proofs.lemmas.Slice.Eq.{bytes_eq-Decides}
 use Rattle.emit_names.specs.declared.style.Style.{Style}
 use Rattle.emit_names.specs.declared.style.Style.TheVariants as styles
 use Rattle.emit_names.specs.Letters.{snake, spelled}
-use Rattle.emit_names.specs.Words.{KEYWORDS, MEMBER_WORDS, INPUT_WORDS}
-use Rattle.emit_names.specs.Names.{is_shifted, is_any_shifted, escape_text, escaped, meets, is_alone, style_in, members, inputs_of}
+use Rattle.emit_names.specs.Words.{KEYWORDS, INPUT_WORDS}
+use Rattle.emit_names.specs.Names.{is_shifted, is_any_shifted, escape_text, escaped, meets, is_alone, style_in, member_words, members, inputs_of}
 use Rattle.emit_names.specs.Laws.{NamesStayApart, MembersStayApart, InputsStayApart}
 use Rattle.emit_names.proofs.Letters.{snake_of, spelled_kept}
 
@@ -112,7 +112,7 @@ names_apart words scope style other_style name other here there same =
     (escaped_apart words (spelled (style_in scope style name) 0 name) (spelled (style_in scope other_style other) 0 other) same)
 
 pub members_apart : MembersStayApart
-members_apart tree style other_style name other here there same = names_apart MEMBER_WORDS (members tree) style other_style name other here there same
+members_apart tree style other_style name other here there same = names_apart (member_words tree) (members tree) style other_style name other here there same
 
 pub inputs_apart : InputsStayApart
 inputs_apart method name other here there same = names_apart INPUT_WORDS (inputs_of method) styles.Snake styles.Snake name other here there same

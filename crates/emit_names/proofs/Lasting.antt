@@ -1,6 +1,6 @@
 -- The names of the methods whose calls have a time.
 use Rattle.std.proofs.Common.{◌≡◌, ℕ, Bool, true, false, not, ◌&&◌, ◌==◌, List, [], ◌∷◌, ◌++◌, ◌∙◌, codes, refl, sym, ap, inl, inr, append_assoc}
-use Rattle.std.specs.List.{Contains, list_any}
+use Rattle.std.specs.List.{Contains, list_all, list_any}
 use Rattle.std.specs.Str.{bytes_eq}
 use Rattle.std.proofs.lemmas.Bool.{eq-eqb, false≢true, and_parts, or_cases, or_left, or_right}
 use Rattle.std.proofs.lemmas.List.{append_cancel_right}
@@ -9,12 +9,12 @@ use Rattle.lang_tree.specs.declared.tree.MethodTree.{MethodTree}
 use Rattle.lang_tree.specs.declared.tree.MonitorTree.{MonitorTree}
 use Rattle.emit_names.specs.declared.endings.Ending.TheVariants as endings
 use Rattle.emit_names.specs.declared.style.Style.TheVariants as styles
-use Rattle.emit_names.specs.Words.{KEYWORDS, MEMBER_WORDS}
-use Rattle.emit_names.specs.Names.{members, member_name, member_names, method_name, try_name, try_names, with_name, with_names, try_with_name, try_with_names, other_names, is_ended_free, is_with_free}
+use Rattle.emit_names.specs.Words.{KEYWORDS}
+use Rattle.emit_names.specs.Names.{words_by, members, member_name, member_names, method_name, try_name, try_names, with_name, with_names, try_with_name, try_with_names, other_names, is_ended_free, is_with_free}
 use Rattle.emit_names.specs.Laws.{LastingStayApart, LastingStandFree, LastingWithsStandFree, LastingAreNoKeywords}
 use Rattle.emit_names.proofs.Apart.{members_apart, not_true}
 use Rattle.emit_names.proofs.Reading.{any_map}
-use Rattle.emit_names.proofs.Withs.{any_is, any_same, member_passes, no_ending, same_text, text_same}
+use Rattle.emit_names.proofs.Withs.{any_is, any_same, ends_in, member_passes, no_member_ending, same_text, text_same}
 
 -- ---- the last byte
 
@@ -181,9 +181,25 @@ lasting_withs_free tree name free too =
 
 -- ---- words that have a meaning
 
+none_until : (has : Bool) → list_all (λ word. not (ends_in (codes "_until") word)) (KEYWORDS ++ words_by has) ≡ true
+none_until true = refl
+none_until false = refl
+
+none_for : (has : Bool) → list_all (λ word. not (ends_in (codes "_for") word)) (KEYWORDS ++ words_by has) ≡ true
+none_for true = refl
+none_for false = refl
+
+none_until_with : (has : Bool) → list_all (λ word. not (ends_in (codes "_until_with") word)) (KEYWORDS ++ words_by has) ≡ true
+none_until_with true = refl
+none_until_with false = refl
+
+none_for_with : (has : Bool) → list_all (λ word. not (ends_in (codes "_for_with") word)) (KEYWORDS ++ words_by has) ≡ true
+none_for_with true = refl
+none_for_with false = refl
+
 pub lasting_stay : LastingAreNoKeywords
 lasting_stay tree endings.With name lasts = absurd (false≢true lasts)
-lasting_stay tree endings.Until name lasts = no_ending (KEYWORDS ++ MEMBER_WORDS) 95 (codes "until") (member_name tree styles.Snake name) refl
-lasting_stay tree endings.For name lasts = no_ending (KEYWORDS ++ MEMBER_WORDS) 95 (codes "for") (member_name tree styles.Snake name) refl
-lasting_stay tree endings.UntilWith name lasts = no_ending (KEYWORDS ++ MEMBER_WORDS) 95 (codes "until_with") (member_name tree styles.Snake name) refl
-lasting_stay tree endings.ForWith name lasts = no_ending (KEYWORDS ++ MEMBER_WORDS) 95 (codes "for_with") (member_name tree styles.Snake name) refl
+lasting_stay tree endings.Until name lasts = no_member_ending tree 95 (codes "until") (member_name tree styles.Snake name) none_until
+lasting_stay tree endings.For name lasts = no_member_ending tree 95 (codes "for") (member_name tree styles.Snake name) none_for
+lasting_stay tree endings.UntilWith name lasts = no_member_ending tree 95 (codes "until_with") (member_name tree styles.Snake name) none_until_with
+lasting_stay tree endings.ForWith name lasts = no_member_ending tree 95 (codes "for_with") (member_name tree styles.Snake name) none_for_with

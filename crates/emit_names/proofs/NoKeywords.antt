@@ -6,8 +6,8 @@ use Rattle.std.proofs.lemmas.List.{append-nil}
 use Rattle.std.proofs.lemmas.List.Folds.{list_all_at, list_any-append, list_any-from_Any}
 use Rattle.emit_names.specs.declared.style.Style.TheVariants as styles
 use Rattle.emit_names.specs.Letters.{camel, spelled}
-use Rattle.emit_names.specs.Words.{KEYWORDS, TYPE_WORDS, MEMBER_WORDS, INPUT_WORDS}
-use Rattle.emit_names.specs.Names.{is_shifted, is_any_shifted, escape_text, escaped, style_in, members, inputs_of}
+use Rattle.emit_names.specs.Words.{KEYWORDS, TYPE_WORDS, INPUT_WORDS}
+use Rattle.emit_names.specs.Names.{is_shifted, is_any_shifted, escape_text, escaped, style_in, has_parameters, words_by, member_words, members, inputs_of}
 use Rattle.emit_names.specs.Laws.{TypesAreNoKeywords, MembersAreNoKeywords, InputsAreNoKeywords}
 use Rattle.emit_names.proofs.Apart.{any_of}
 
@@ -51,8 +51,12 @@ escaped_stays words plain text = stays_apart KEYWORDS words plain text (any_of K
 pub types_stay : TypesAreNoKeywords
 types_stay tree = escaped_stays TYPE_WORDS refl (camel tree.name)
 
+either_plain : (has : Bool) → list_all is_plain (KEYWORDS ++ words_by has) ≡ true
+either_plain true = refl
+either_plain false = refl
+
 pub members_stay : MembersAreNoKeywords
-members_stay tree style name = escaped_stays MEMBER_WORDS refl (spelled (style_in (members tree) style name) 0 name)
+members_stay tree style name = escaped_stays (member_words tree) (either_plain (has_parameters tree)) (spelled (style_in (members tree) style name) 0 name)
 
 pub inputs_stay : InputsAreNoKeywords
 inputs_stay method name = escaped_stays INPUT_WORDS refl (spelled (style_in (inputs_of method) styles.Snake name) 0 name)

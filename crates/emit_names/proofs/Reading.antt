@@ -14,8 +14,8 @@ use Rattle.lang_tree.specs.Names.{declared_name}
 use Rattle.emit_names.specs.declared.style.Style.{Style}
 use Rattle.emit_names.specs.declared.style.Style.TheVariants as styles
 use Rattle.emit_names.specs.Letters.{cased, begins_word, marked, spelled, camel_from, raised, starts}
-use Rattle.emit_names.specs.Words.{MEMBER_WORDS, INPUT_WORDS}
-use Rattle.emit_names.specs.Names.{is_shifted, meets, style_in, rust_name, escaped, input_name, member_name}
+use Rattle.emit_names.specs.Words.{INPUT_WORDS}
+use Rattle.emit_names.specs.Names.{escape_text, is_escaped, is_shifted, meets, style_in, rust_name, escaped, input_name, member_name, member_words}
 use Rattle.emit_names.specs.inner.Reading.{takes, rest_of, after_mark}
 
 pub any_map : {X Y : Type 0} (p : Y → Bool) (f : X → Y) (xs : List X) → list_any (λ x. p (f x)) xs ≡ list_any p (map f xs)
@@ -98,20 +98,24 @@ camel_left_out raise (b ∷ more) d out some is left =
 
 -- ---- names, by what stands for their parts
 
-pub input_says : (method : MethodTree) (inputs : List InputTree) (locals : List Decl) (given : Style) (name bytes : List ℕ) → inputs ≡ method.inputs → locals ≡ method.locals → bytes ≡ name
-    → given ≡ style_in (map (λ input. input.name) inputs ++ map declared_name locals) styles.Snake bytes → escaped INPUT_WORDS (spelled given 0 bytes) ≡ input_name method name
-input_says method inputs locals given name bytes takes keeps named is =
-    ap (λ (s : Style). escaped INPUT_WORDS (spelled s 0 bytes)) is
+pub input_says : (method : MethodTree) (inputs : List InputTree) (locals : List Decl) (given : Style) (name bytes : List ℕ) (ends : Bool) → inputs ≡ method.inputs → locals ≡ method.locals → bytes ≡ name
+    → given ≡ style_in (map (λ input. input.name) inputs ++ map declared_name locals) styles.Snake bytes → ends ≡ is_escaped INPUT_WORDS (spelled given 0 bytes)
+    → spelled given 0 bytes ++ escape_text ends ≡ input_name method name
+input_says method inputs locals given name bytes ends takes keeps named is has =
+    ap (λ (t : Bool). spelled given 0 bytes ++ escape_text t) has
+    ∙ ap (λ (s : Style). escaped INPUT_WORDS (spelled s 0 bytes)) is
     ∙ ap (λ (l : List InputTree). rust_name INPUT_WORDS (map (λ input. input.name) l ++ map declared_name locals) styles.Snake bytes) takes
     ∙ ap (λ (l : List Decl). rust_name INPUT_WORDS (map (λ input. input.name) method.inputs ++ map declared_name l) styles.Snake bytes) keeps
     ∙ ap (input_name method) named
 
-pub member_says : (tree : MonitorTree) (declared : List Decl) (methods : List MethodTree) (style given : Style) (name bytes : List ℕ) → declared ≡ tree.decls → methods ≡ tree.methods → bytes ≡ name
-    → given ≡ style_in (map declared_name declared ++ map (λ method. method.name) methods) style bytes → escaped MEMBER_WORDS (spelled given 0 bytes) ≡ member_name tree style name
-member_says tree declared methods style given name bytes has does named is =
-    ap (λ (s : Style). escaped MEMBER_WORDS (spelled s 0 bytes)) is
-    ∙ ap (λ (l : List Decl). rust_name MEMBER_WORDS (map declared_name l ++ map (λ method. method.name) methods) style bytes) has
-    ∙ ap (λ (l : List MethodTree). rust_name MEMBER_WORDS (map declared_name tree.decls ++ map (λ method. method.name) l) style bytes) does
+pub member_says : (tree : MonitorTree) (declared : List Decl) (methods : List MethodTree) (style given : Style) (name bytes : List ℕ) (ends : Bool) → declared ≡ tree.decls → methods ≡ tree.methods → bytes ≡ name
+    → given ≡ style_in (map declared_name declared ++ map (λ method. method.name) methods) style bytes → ends ≡ is_escaped (member_words tree) (spelled given 0 bytes)
+    → spelled given 0 bytes ++ escape_text ends ≡ member_name tree style name
+member_says tree declared methods style given name bytes ends has does named is ended =
+    ap (λ (t : Bool). spelled given 0 bytes ++ escape_text t) ended
+    ∙ ap (λ (s : Style). escaped (member_words tree) (spelled s 0 bytes)) is
+    ∙ ap (λ (l : List Decl). rust_name (member_words tree) (map declared_name l ++ map (λ method. method.name) methods) style bytes) has
+    ∙ ap (λ (l : List MethodTree). rust_name (member_words tree) (map declared_name tree.decls ++ map (λ method. method.name) l) style bytes) does
     ∙ ap (member_name tree style) named
 
 -- a name of a scope of two lists

@@ -9,12 +9,12 @@ use Rattle.std.proofs.lemmas.Slice.Eq.{bytes_eq-Decides}
 use Rattle.lang_tree.specs.declared.tree.MethodTree.{MethodTree}
 use Rattle.lang_tree.specs.declared.tree.MonitorTree.{MonitorTree}
 use Rattle.emit_names.specs.declared.style.Style.TheVariants as styles
-use Rattle.emit_names.specs.Words.{KEYWORDS, MEMBER_WORDS}
-use Rattle.emit_names.specs.Names.{declared_text, method_name, member_name, member_names, try_name, try_names, with_name, with_names, try_with_name, is_try_free, is_with_free}
+use Rattle.emit_names.specs.Words.{KEYWORDS}
+use Rattle.emit_names.specs.Names.{has_parameters, member_words, words_by, declared_text, method_name, member_name, member_names, try_name, try_names, with_name, with_names, try_with_name, is_try_free, is_with_free}
 use Rattle.emit_names.specs.Laws.{WithsStayApart, WithsStandFree, TryWithsStandFree, WithsAreNoKeywords}
 use Rattle.emit_names.proofs.Apart.{members_apart, not_true}
 use Rattle.emit_names.proofs.Reading.{any_map}
-use Rattle.emit_names.proofs.Tries.{no_word}
+use Rattle.emit_names.proofs.Tries.{all_other, no_word}
 
 pub withs_apart : WithsStayApart
 withs_apart tree name other here there same =
@@ -109,8 +109,17 @@ no_ending words first ending text others (k, within, at) =
     (sym (list_all_at (λ word. not (ends_in (first ∷ ending) word)) words k (text ++ (first ∷ ending)) within (ap (λ (word : List ℕ). not (ends_in (first ∷ ending) word)) at ∙ ap not (in_ends first ending text)))
     ∙ others)
 
+-- no word of a monitor's members ends so
+pub no_member_ending : (tree : MonitorTree) (first : ℕ) (ending text : List ℕ) → ((has : Bool) → list_all (λ word. not (ends_in (first ∷ ending) word)) (KEYWORDS ++ words_by has) ≡ true)
+    → Contains (KEYWORDS ++ member_words tree) (text ++ (first ∷ ending)) → ⊥
+no_member_ending tree first ending text others = no_ending (KEYWORDS ++ member_words tree) first ending text (others (has_parameters tree))
+
+none_with : (has : Bool) → list_all (λ word. not (ends_in (codes "_with") word)) (KEYWORDS ++ words_by has) ≡ true
+none_with true = refl
+none_with false = refl
+
 pub withs_stay : WithsAreNoKeywords
 withs_stay tree name = (
-  no_ending (KEYWORDS ++ MEMBER_WORDS) 95 (codes "with") (member_name tree styles.Snake name) refl,
-  no_word (KEYWORDS ++ MEMBER_WORDS) (with_name tree name) refl,
+  no_member_ending tree 95 (codes "with") (member_name tree styles.Snake name) none_with,
+  no_word (KEYWORDS ++ member_words tree) (with_name tree name) (all_other (has_parameters tree)),
 )

@@ -9,8 +9,8 @@ use Rattle.emit_names.specs.Names.{rust_name, members, member_name, inputs_of, i
 use Rattle.emit_names.specs.Names.{member_names, try_name, try_names, is_try_free, with_name}
 use Rattle.emit_names.specs.Names.{with_names, try_with_name, is_with_free, is_try_with_free}
 use Rattle.emit_names.specs.Names.{ended_name, other_names, are_lasting_free}
-use Rattle.emit_names.specs.Names.{are_lasting_with_free}
-use Rattle.emit_names.specs.Words.{KEYWORDS, TYPE_WORDS, MEMBER_WORDS, INPUT_WORDS}
+use Rattle.emit_names.specs.Names.{are_lasting_with_free, member_words}
+use Rattle.emit_names.specs.Words.{KEYWORDS, TYPE_WORDS, INPUT_WORDS}
 
 -- two names of a scope that are written alike are one, in whatever style each of them is written
 abbrev pub NamesStayApart : Type 0
@@ -44,7 +44,7 @@ TypesAreNoKeywords = (tree : MonitorTree) → Contains (KEYWORDS ++ TYPE_WORDS) 
 abbrev pub MembersAreNoKeywords : Type 0
 MembersAreNoKeywords =
     (tree : MonitorTree) (style : Style) (name : List ℕ)
-    → Contains (KEYWORDS ++ MEMBER_WORDS) (member_name tree style name) → ⊥
+    → Contains (KEYWORDS ++ member_words tree) (member_name tree style name) → ⊥
 
 -- and for parameters and locals
 abbrev pub InputsAreNoKeywords : Type 0
@@ -70,7 +70,7 @@ TriesStandFree =
 abbrev pub TriesAreNoKeywords : Type 0
 TriesAreNoKeywords =
     (tree : MonitorTree) (name : List ℕ)
-    → Contains (KEYWORDS ++ MEMBER_WORDS) (try_name tree name) → ⊥
+    → Contains (KEYWORDS ++ member_words tree) (try_name tree name) → ⊥
 
 -- the methods whose calls are given a function are named apart from one another
 abbrev pub WithsStayApart : Type 0
@@ -99,8 +99,8 @@ TryWithsStandFree =
 abbrev pub WithsAreNoKeywords : Type 0
 WithsAreNoKeywords =
     (tree : MonitorTree) (name : List ℕ)
-    → (Contains (KEYWORDS ++ MEMBER_WORDS) (with_name tree name) → ⊥)
-    × (Contains (KEYWORDS ++ MEMBER_WORDS) (try_with_name tree name) → ⊥)
+    → (Contains (KEYWORDS ++ member_words tree) (with_name tree name) → ⊥)
+    × (Contains (KEYWORDS ++ member_words tree) (try_with_name tree name) → ⊥)
 
 -- ---- the methods whose calls have a time
 
@@ -142,4 +142,4 @@ abbrev pub LastingAreNoKeywords : Type 0
 LastingAreNoKeywords =
     (tree : MonitorTree) (ending : Ending) (name : List ℕ)
     → has_time ending ≡ true
-    → Contains (KEYWORDS ++ MEMBER_WORDS) (ended_name tree ending name) → ⊥
+    → Contains (KEYWORDS ++ member_words tree) (ended_name tree ending name) → ⊥

@@ -13,7 +13,7 @@ use Rattle.emit_names.specs.declared.endings.Ending.TheVariants as endings
 use Rattle.emit_names.specs.declared.style.Style.{Style}
 use Rattle.emit_names.specs.declared.style.Style.TheVariants as styles
 use Rattle.emit_names.specs.Letters.{camel, snake, spelled}
-use Rattle.emit_names.specs.Words.{KEYWORDS, TYPE_WORDS, MEMBER_WORDS, INPUT_WORDS}
+use Rattle.emit_names.specs.Words.{KEYWORDS, TYPE_WORDS, MEMBER_WORDS, CHOICE_WORDS, INPUT_WORDS}
 
 -- ---- words that have a meaning
 
@@ -61,6 +61,26 @@ rust_name words scope style name =
 
 -- ---- the names of a monitor
 
+-- it is chosen when a monitor is opened
+abbrev pub is_parameter : Decl → Bool
+is_parameter (decls.Const at name value) = false
+is_parameter (decls.Param at name value limit) = true
+is_parameter (decls.Int at name value) = false
+is_parameter (decls.Copied at name source) = false
+is_parameter (decls.Flag at name value) = false
+
+-- some declaration is that of a parameter
+abbrev pub has_parameters : MonitorTree → Bool
+has_parameters tree = list_any is_parameter tree.decls
+
+-- the words that have a meaning among the members of a monitor, by whether it has parameters
+abbrev pub words_by : Bool → List (List ℕ)
+words_by true = MEMBER_WORDS ++ CHOICE_WORDS
+words_by false = MEMBER_WORDS
+
+abbrev pub member_words : MonitorTree → List (List ℕ)
+member_words tree = words_by (has_parameters tree)
+
 -- constants, fields and methods
 abbrev pub members : MonitorTree → List (List ℕ)
 members tree = map declared_name tree.decls ++ map (λ method. method.name) tree.methods
@@ -74,17 +94,19 @@ type_name tree = escaped TYPE_WORDS (camel tree.name)
 
 -- constants in upper-case letters, fields and methods in snake case
 abbrev pub member_name : MonitorTree → Style → List ℕ → List ℕ
-member_name tree = rust_name MEMBER_WORDS (members tree)
+member_name tree = rust_name (member_words tree) (members tree)
 
 abbrev pub input_name : MethodTree → List ℕ → List ℕ
 input_name method = rust_name INPUT_WORDS (inputs_of method) styles.Snake
 
 -- ---- the methods that try
 
--- constants in upper-case letters, fields in snake case
+-- constants in upper-case letters, fields and parameters in snake case
 abbrev pub declared_style : Decl → Style
 declared_style (decls.Const at name value) = styles.Upper
+declared_style (decls.Param at name value limit) = styles.Snake
 declared_style (decls.Int at name value) = styles.Snake
+declared_style (decls.Copied at name source) = styles.Snake
 declared_style (decls.Flag at name value) = styles.Snake
 
 -- what a constant or a field is written as

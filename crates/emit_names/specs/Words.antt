@@ -28,6 +28,12 @@ MEMBER_WORDS =
     codes "new" ∷ codes "with_data" ∷ codes "get_mut" ∷ codes "into_inner" ∷
     codes "is_poisoned" ∷ []
 
+-- what else is named in the functions that open a monitor which has parameters
+abbrev pub CHOICE_WORDS : List (List ℕ)
+CHOICE_WORDS =
+    codes "admits" ∷ codes "data" ∷ codes "Ok" ∷ codes "Err" ∷ codes "Some" ∷ codes "None" ∷
+    codes "Overflow" ∷ codes "Refused" ∷ codes "HandOn" ∷ []
+
 -- what else is named in the methods of a module
 abbrev pub INPUT_WORDS : List (List ℕ)
 INPUT_WORDS =

@@ -8,6 +8,8 @@
 //! function or have a time, where [`is_with_free`] and [`is_try_with_free`]
 //! ([`with_names_stay_apart`]), or [`are_lasting_free`] and [`are_lasting_with_free`]
 //! ([`lasting_names_stay_apart`]).
+//! Where a monitor has parameters ([`has_parameters`]), its members are also told from what the
+//! functions name that open it.
 //! [`has_odd_name`] says whether rustc's lints would speak of a name (`specs/Lints`).
 #![tactic(auto)]
 
@@ -25,7 +27,7 @@ pub use laws::{
     with_names_stay_apart,
 };
 pub use lints::has_odd_name;
-pub use names::{write_input, write_member, write_type};
+pub use names::{has_parameters, is_parameter, write_input, write_member, write_type};
 pub use style::Style;
 pub use trying::{
     are_lasting_free, are_lasting_with_free, is_try_free, is_try_with_free, is_with_free,

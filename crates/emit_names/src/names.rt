@@ -7,7 +7,8 @@ ghost use Rattle.std.specs.Str.{bytes_eq};
 ghost use Rattle.emit_names.specs.Letters.{camel, camel_from, marked, raised, spelled, starts};
 ghost use Rattle.emit_names.specs.Names.{escape_text, escaped, input_name, is_escaped};
 ghost use Rattle.emit_names.specs.Names.{is_shifted, meets, member_name, style_in, type_name};
-ghost use Rattle.emit_names.specs.Names.{ended_name, ending_text};
+ghost use Rattle.emit_names.specs.Names.{ended_name, ending_text, has_parameters, is_parameter};
+ghost use Rattle.emit_names.specs.Names.{member_words};
 ghost use Rattle.emit_names.specs.inner.Reading.{after_mark, rest_of, takes};
 ghost use Rattle.emit_names.specs.inner.Spellings.{spelling_text};
 ghost use Rattle.emit_names.specs.declared.style.Style.TheVariants as styles;
@@ -18,7 +19,7 @@ use crate::spelling::{Spelling, spelling_of};
 use crate::style::{Style, begins_word, cased, upper};
 use base_io::{Sink, SinkFailed, write_piece};
 use lang_base::{Name, Named, is_letter};
-use lang_tree::{MethodTree, MonitorTree};
+use lang_tree::{Decl, MethodTree, MonitorTree};
 
 const KEYWORDS: [&[u8]; 52] = [
     b"as",
@@ -106,6 +107,24 @@ const MEMBER_WORDS: [&[u8]; 5] = [
     b"is_poisoned",
 ];
 
+// Those, and what the functions name that open a monitor which has parameters.
+const CHOICE_WORDS: [&[u8]; 14] = [
+    b"new",
+    b"with_data",
+    b"get_mut",
+    b"into_inner",
+    b"is_poisoned",
+    b"admits",
+    b"data",
+    b"Ok",
+    b"Err",
+    b"Some",
+    b"None",
+    b"Overflow",
+    b"Refused",
+    b"HandOn",
+];
+
 const INPUT_WORDS: [&[u8]; 24] = [
     b"inner",
     b"copy",
@@ -146,7 +165,7 @@ pub fn write_member<S: Sink>(
 {
     let bytes = name.bytes();
     let style = style_in(tree.decls.items(), tree.methods.items(), style, bytes);
-    write_escaped(&MEMBER_WORDS, style, bytes, out)
+    write_escaped(is_member_escaped(tree, style, bytes), style, bytes, out)
 }
 
 /// The name of a constant, a field or a method as Rust has it, after a word.
@@ -160,7 +179,7 @@ pub(crate) fn member_spelling<'a>(
 {
     let bytes = name.bytes();
     let style = style_in(tree.decls.items(), tree.methods.items(), style, bytes);
-    let escaped = is_escaped(&MEMBER_WORDS, style, bytes);
+    let escaped = is_member_escaped(tree, style, bytes);
     spelling_of(word, style, bytes, escape_bytes(escaped))
 }
 
@@ -180,7 +199,7 @@ pub(crate) fn ended_spelling<'a>(
         Style::Snake,
         bytes,
     );
-    let escaped = is_escaped(&MEMBER_WORDS, style, bytes);
+    let escaped = is_member_escaped(tree, style, bytes);
     spelling_of(word, style, bytes, ended_bytes(escaped, ending))
 }
 
@@ -218,7 +237,30 @@ pub fn write_input<S: Sink>(method: &MethodTree, name: &Name, out: &mut S) -> Re
         Style::Snake,
         bytes,
     );
-    write_escaped(&INPUT_WORDS, style, bytes, out)
+    write_escaped(is_escaped(&INPUT_WORDS, style, bytes), style, bytes, out)
+}
+
+/// Whether a monitor has parameters, with which it is opened.
+pub fn has_parameters(tree: &MonitorTree) -> bool
+    ensures { result ≡ has_parameters tree.now }
+{
+    any_parameter(tree.decls.items())
+}
+
+fn any_parameter(declared: &[Decl]) -> bool
+    ensures { result ≡ list_any is_parameter declared.now }
+{
+    declared.iter().any(|one| is_parameter(one))
+}
+
+/// Whether a declaration is that of a parameter.
+pub fn is_parameter(declared: &Decl) -> bool
+    ensures { result ≡ is_parameter declared.now }
+{
+    match declared {
+        Decl::Param { .. } => true,
+        Decl::Const { .. } | Decl::Int { .. } | Decl::Copied { .. } | Decl::Flag { .. } => false,
+    }
 }
 
 // ---- names of one scope
@@ -289,22 +331,32 @@ fn is_nothing(text: &[u8]) -> bool
 // ---- words that have a meaning
 
 fn write_escaped<S: Sink>(
-    words: &[&[u8]],
+    escaped: bool,
     style: Style,
     name: &[u8],
     out: &mut S,
 ) -> Result<(), SinkFailed>
     ensures { Wrote (S.seen out.old) (S.seen out.new) result
-        (escaped (map (λ word. word.now) words.now) (spelled style 0 name.now)) }
+        (spelled style 0 name.now ++ escape_text escaped) }
 {
     write_spelled(style, 0, name, out)?;
-    write_piece(escape_bytes(is_escaped(words, style, name)), out)
+    write_piece(escape_bytes(escaped), out)
 }
 
 fn escape_bytes(escaped: bool) -> &'static [u8]
     ensures { result.now ≡ escape_text escaped }
 {
     if escaped { b"_" } else { b"" }
+}
+
+// Whether a word among those of the members of a monitor.
+fn is_member_escaped(tree: &MonitorTree, style: Style, name: &[u8]) -> bool
+    ensures { result ≡ is_escaped (member_words tree.now) (spelled style 0 name.now) }
+{
+    if has_parameters(tree) {
+        return is_escaped(&CHOICE_WORDS, style, name);
+    }
+    is_escaped(&MEMBER_WORDS, style, name)
 }
 
 fn is_escaped(words: &[&[u8]], style: Style, name: &[u8]) -> bool

@@ -166,7 +166,9 @@ fn declared_style(declared: &Decl) -> Style
 {
     match declared {
         Decl::Const { .. } => Style::Upper,
-        Decl::Int { .. } | Decl::Flag { .. } => Style::Snake,
+        Decl::Param { .. } | Decl::Int { .. } | Decl::Copied { .. } | Decl::Flag { .. } => {
+            Style::Snake
+        }
     }
 }
 

@@ -115,13 +115,17 @@ parts_wide parts number few low = let most = mul-le-mul {n₁ = parts} {m₁ = U
 declared_long : (place : ℕ) (declared : List Decl) (later : List Entry) → length (declared_from place declared ++ later) ≡ length declared + length later
 declared_long place [] later = omega arith
 declared_long place (decls.Const at name value ∷ more) later = let rest = declared_long place more later in omega arith
+declared_long place (decls.Param at name value limit ∷ more) later = let rest = declared_long (place + 1) more later in omega arith
 declared_long place (decls.Int at name value ∷ more) later = let rest = declared_long (place + 1) more later in omega arith
+declared_long place (decls.Copied at name source ∷ more) later = let rest = declared_long (place + 1) more later in omega arith
 declared_long place (decls.Flag at name value ∷ more) later = let rest = declared_long (place + 1) more later in omega arith
 
 declared_alone : (place : ℕ) (declared : List Decl) → length (declared_from place declared) ≡ length declared
 declared_alone place [] = refl
 declared_alone place (decls.Const at name value ∷ more) = ap suc (declared_alone place more)
+declared_alone place (decls.Param at name value limit ∷ more) = ap suc (declared_alone (place + 1) more)
 declared_alone place (decls.Int at name value ∷ more) = ap suc (declared_alone (place + 1) more)
+declared_alone place (decls.Copied at name source ∷ more) = ap suc (declared_alone (place + 1) more)
 declared_alone place (decls.Flag at name value ∷ more) = ap suc (declared_alone (place + 1) more)
 
 inputs_long : (place : ℕ) (taken : List InputTree) (later : List Entry) → length (inputs_from place taken ++ later) ≡ length taken + length later

@@ -45,7 +45,13 @@ past_fields place [] later name none held = held
 past_fields place (decls.Const at own value ∷ more) later name none held =
     let both = or_parts (bytes_eq own name) (list_any (declares name) more) none in
     missed (bytes_eq own name) _ (found (declared_from place more ++ later) name) both.0 (past_fields place more later name both.1 held)
+past_fields place (decls.Param at own value limit ∷ more) later name none held =
+    let both = or_parts (bytes_eq own name) (list_any (declares name) more) none in
+    missed (bytes_eq own name) _ (found (declared_from (place + 1) more ++ later) name) both.0 (past_fields (place + 1) more later name both.1 held)
 past_fields place (decls.Int at own value ∷ more) later name none held =
+    let both = or_parts (bytes_eq own name) (list_any (declares name) more) none in
+    missed (bytes_eq own name) _ (found (declared_from (place + 1) more ++ later) name) both.0 (past_fields (place + 1) more later name both.1 held)
+past_fields place (decls.Copied at own source ∷ more) later name none held =
     let both = or_parts (bytes_eq own name) (list_any (declares name) more) none in
     missed (bytes_eq own name) _ (found (declared_from (place + 1) more ++ later) name) both.0 (past_fields (place + 1) more later name both.1 held)
 past_fields place (decls.Flag at own value ∷ more) later name none held =
@@ -55,7 +61,9 @@ past_fields place (decls.Flag at own value ∷ more) later name none held =
 high_declared : (place : ℕ) (declared : List Decl) (name : List ℕ) → 16 ≤ place → FoundNoField (found (declared_from place declared) name)
 high_declared place [] name is = tt
 high_declared place (decls.Const at own value ∷ more) name is = either_no_field (bytes_eq own name) _ (found (declared_from place more) name) tt (high_declared place more name is)
+high_declared place (decls.Param at own value limit ∷ more) name is = either_no_field (bytes_eq own name) _ (found (declared_from (place + 1) more) name) (high place is) (high_declared (place + 1) more name (omega arith))
 high_declared place (decls.Int at own value ∷ more) name is = either_no_field (bytes_eq own name) _ (found (declared_from (place + 1) more) name) (high place is) (high_declared (place + 1) more name (omega arith))
+high_declared place (decls.Copied at own source ∷ more) name is = either_no_field (bytes_eq own name) _ (found (declared_from (place + 1) more) name) (high place is) (high_declared (place + 1) more name (omega arith))
 high_declared place (decls.Flag at own value ∷ more) name is = either_no_field (bytes_eq own name) _ (found (declared_from (place + 1) more) name) (high place is) (high_declared (place + 1) more name (omega arith))
 
 input_no_field : (kind : Kind) (place : ℕ) → 16 ≤ place → FoundNoField (Some (record { name = []; meaning = input_meaning kind place; is_variable = false }))

@@ -139,7 +139,9 @@ constant_short literal = either_constant (nat_le literal.digits GREATEST_NUMBER)
 pub declared_plain : (place : ℕ) (declared : List Decl) (later : List Entry) → ArePlain later → ArePlain (declared_from place declared ++ later)
 declared_plain place [] later plain = plain
 declared_plain place (decls.Const at name value ∷ more) later plain = ((refl, constant_short value), declared_plain place more later plain)
+declared_plain place (decls.Param at name value limit ∷ more) later plain = (tt, declared_plain (place + 1) more later plain)
 declared_plain place (decls.Int at name value ∷ more) later plain = (tt, declared_plain (place + 1) more later plain)
+declared_plain place (decls.Copied at name source ∷ more) later plain = (tt, declared_plain (place + 1) more later plain)
 declared_plain place (decls.Flag at name value ∷ more) later plain = (tt, declared_plain (place + 1) more later plain)
 
 input_plain : (kind : Kind) (place : ℕ) → IsPlain false (input_meaning kind place)

@@ -12,6 +12,7 @@ use Rattle.lang_monitor.specs.declared.monitor.Block.{Block}
 use Rattle.lang_monitor.specs.MonitorParts.{MonitorParts, locals_in, start_of}
 use Rattle.lang_monitor.specs.Bodies.{Inputs, Memory, Overflows, fits_64, reading}
 use Rattle.lang_monitor.specs.Inputs.{reads_inputs}
+use Rattle.lang_monitor.specs.Starts.{IsStart}
 use Rattle.lang_types.specs.Typed.{IsTyped, PlacedBlock, blocks_from}
 use Rattle.lang_types.specs.KeptMeaning.{expressions_in}
 use Rattle.machine_implicit.specs.Steps.{BlockSteps, condition_truth, guard_truth}
@@ -71,12 +72,14 @@ PrintedBodiesStep =
     → AreShort state → AreShort inputs.arguments → AreShort inputs.locals
     → MayRun whole block state inputs → CallSteps tree placed whole block state inputs
 
--- the state at the start is within 64 bits, and so are the locals with which a call begins
+-- The state at the start where nothing is chosen is within 64 bits, and so are the locals with
+-- which a call begins, and each state with which the monitor may be opened.
 abbrev pub StartsAreShort : Type 0
 StartsAreShort =
     (tree : MonitorTree) (monitor : MonitorParts) → faults_of tree ≡ [] → IsTyped tree monitor
     → AreShort (start_of monitor)
     × ((method : ℕ) → AreShort (locals_in (slice_get monitor.methods method)))
+    × ((start : List Value) → IsStart monitor.fields start → AreShort start)
 
 -- ---- guards
 

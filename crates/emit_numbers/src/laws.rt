@@ -8,8 +8,8 @@ ghost use Rattle.emit_numbers.specs.Laws.{WorksOutPlainly};
 /// overflow just where a value that is assigned or answered leaves 64 bits, and the state is then
 /// as it was, whether the body works on a copy of it or not; else state, locals and answer are
 /// those of the body. A body that is printed without `Result` answers no overflow. Values that are
-/// not tested have 64 bits where what is read has: so do all values at the start, and those that a
-/// call leaves. A block that is printed whole does its step too, where no value of it leaves 64
+/// not tested have 64 bits where what is read has: so do all values at the start, whatever the
+/// parameters are with which a monitor is opened, and those that a call leaves. A block that is printed whole does its step too, where no value of it leaves 64
 /// bits: then each number that it works out in 64 bits has as many.
 pub fn printed_bodies_step()
     ensures steps { PrintedBodiesStep }

@@ -1,6 +1,6 @@
 use Rattle.std.proofs.Common.{codes, ap}
 use Rattle.base_io.proofs.Writing.{wrote_both, wrote_fails, wrote_longer, wrote_same}
-use Rattle.emit_method.specs.Methods.{typed_start}
+use Rattle.emit_choices.specs.Declarations.{typed_start}
 use Rattle.emit_names.specs.Names.{input_name}
 use Rattle.lang_tree.specs.Names.{declared_name}
 use Rattle.emit_method.proofs.methods.write_local.Goals as goal

@@ -1,5 +1,5 @@
 use Rattle.std.proofs.Common.{codes, ap}
-use Rattle.emit_method.specs.Methods.{typed_start}
+use Rattle.emit_choices.specs.Declarations.{typed_start}
 use Rattle.emit_names.specs.Names.{member_name}
 use Rattle.lang_tree.specs.Names.{declared_name}
 use Rattle.emit_names.specs.declared.style.Style.TheVariants as styles

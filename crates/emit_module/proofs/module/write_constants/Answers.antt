@@ -1,7 +1,8 @@
 use Rattle.std.proofs.Common.{◌∙◌, ap, not}
 use Rattle.base_io.proofs.Writing.{wrote_both, wrote_fails, wrote_longer, wrote_same}
 use Rattle.emit_statements.specs.Sources.{seen}
-use Rattle.emit_module.specs.Modules.{constant_line, constants_end, is_field}
+use Rattle.emit_choices.specs.Declarations.{is_field}
+use Rattle.emit_module.specs.Modules.{constant_line, constants_end}
 use Rattle.std.specs.List.{flat_map, list_any}
 use Rattle.emit_module.proofs.module.write_constants.Goals as goal
 

@@ -1,6 +1,7 @@
 use Rattle.std.proofs.Common.{codes, ap}
 use Rattle.base_io.proofs.Writing.{wrote_both, wrote_fails, wrote_longer, wrote_same}
-use Rattle.emit_module.specs.Modules.{brace_text, field_line, lints_text}
+use Rattle.emit_choices.specs.Starts.{brace_text}
+use Rattle.emit_module.specs.Modules.{field_line, lints_text}
 use Rattle.std.specs.List.{flat_map}
 use Rattle.emit_module.proofs.state.write_state.Goals as goal
 

@@ -1,7 +1,8 @@
 use Rattle.std.proofs.Common.{codes, ap, List}
 use Rattle.base_io.proofs.Writing.{wrote_both, wrote_fails, wrote_longer, wrote_same}
 use Rattle.emit_comments.proofs.Numbered.{numbered}
-use Rattle.emit_module.specs.Modules.{lints_text, method_functions, starts_text}
+use Rattle.emit_choices.specs.Starts.{starts_text}
+use Rattle.emit_module.specs.Modules.{lints_text, method_functions}
 use Rattle.emit_statements.specs.Sources.{seen}
 use Rattle.lang_tree.specs.declared.tree.MethodTree.{MethodTree}
 use Rattle.std.specs.List.{enumerate_from, flat_map}

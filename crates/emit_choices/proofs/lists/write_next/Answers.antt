@@ -1,0 +1,9 @@
+use Rattle.emit_choices.specs.Lists.{parameter_text}
+use Rattle.base_io.proofs.Writing.{wrote_both, wrote_fails, wrote_longer, wrote_same}
+use Rattle.emit_choices.proofs.lists.write_next.Goals as goal
+
+pub returns-in_err-write_piece : goal.returns-in_err-write_piece
+returns-in_err-write_piece g c = wrote_fails _ c.from_residual.ensures.0 (wrote_longer (parameter_text c.args.form c.args.tree.now c.args.name.now c.args.limit.now) (wrote_same _ (c.sign_before.ensures) c.in_err-write_piece.ensures))
+
+pub returns : goal.returns
+returns g c = wrote_both (wrote_same _ (c.sign_before.ensures) c.in_ok-write_piece.ensures) c.write_parameter.ensures

@@ -1,0 +1,9 @@
+use Rattle.emit_choices.specs.Declarations.{start_text}
+use Rattle.base_io.proofs.Writing.{wrote_both, wrote_fails, wrote_longer}
+use Rattle.emit_choices.proofs.starts.write_own.Goals as goal
+
+pub returns-in_err-write_piece : goal.returns-in_err-write_piece
+returns-in_err-write_piece g c = wrote_fails _ c.from_residual.ensures.0 (wrote_longer (start_text c.args.declared.now) c.in_err-write_piece.ensures)
+
+pub returns : goal.returns
+returns g c = wrote_both c.in_ok-write_piece.ensures c.write_start.ensures
