@@ -10,6 +10,8 @@ use emit_fits::{fitting_blocks_never_overflow, moments_stay_in_64};
 use emit_numbers::{printed_bodies_step, printed_numbers_are_wide, printed_tests_hold};
 use expresso_answers::{Status, plan_of, text_of};
 use front_command::PlanChoice;
+use lang_monitor::monitors_may_be_opened;
+use machine_events::lawful_for_every_choice;
 use plan_fits::whole_blocks;
 use std::alloc::{AllocError, Global};
 
@@ -27,6 +29,8 @@ pub(crate) fn emit_file<F: Files, S: Sink>(
     ensures files { KeepsFiles (F.seen files.old) (F.seen files.new)
         (F.may_read files.old) (F.may_read files.new) }
 {
+    monitors_may_be_opened();
+    lawful_for_every_choice();
     counted_code_loses_none();
     printed_bodies_step();
     printed_tests_hold();

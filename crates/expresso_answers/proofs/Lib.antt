@@ -8,3 +8,4 @@ pub mod Outcomes
 pub mod OneFile
 pub mod Placed
 pub mod Keeping
+pub mod OwnStart

@@ -279,8 +279,9 @@ IsExplainTextBy held true true file text =
     × HasFitReasons is.tree is.monitor is.plan.kept front text
 
 -- the text of the Rust module of the monitor of the file, with its comments, under a counted plan:
--- what threads do by the code of that plan is a run of the monitor, no wake-up is lost, and each
--- printed body does the step of its block, without tests of 64 bits where the block is whole
+-- whatever the monitor is opened with, what threads do by the code of that plan is a run of it, no
+-- wake-up is lost, and each printed body does the step of its block, without tests of 64 bits where
+-- the block is whole
 pub record IsEmitText (held : List ℕ → Option (List ℕ)) (file text : List ℕ) : Type 0 where
   pub tree : MonitorTree
   pub monitor : MonitorParts

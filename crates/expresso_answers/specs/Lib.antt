@@ -1,3 +1,4 @@
+pub mod Choices
 pub mod Placements
 pub mod PlacedRuns
 pub mod Simulations

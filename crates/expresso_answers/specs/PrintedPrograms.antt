@@ -24,6 +24,7 @@ use Rattle.emit_code.specs.LivePlans.{printed_program}
 use Rattle.emit_numbers.specs.Laws.{AreShort, CallSteps, MayRun, StaysWide, scope_in}
 use Rattle.emit_numbers.specs.Tests.{printed_test}
 use Rattle.plan_fits.specs.Answers.{AreWhole}
+use Rattle.expresso_answers.specs.Choices.{ForEveryChoice}
 
 -- Any number of threads call the methods, each as often as it does, with arguments that fit, and
 -- whichever of these calls have a time. Then at each moment of each execution all that `LosesNone`
@@ -152,17 +153,18 @@ WholeCallsNeverOverflow monitor plan whole =
 -- ---- what is promised
 
 -- What is promised of the module that is printed of a monitor under a plan, with these of its
--- blocks whole, beside its text.
+-- blocks whole, beside its text. What depends on the start is promised of the monitor as it is
+-- opened with any values with which it may be.
 pub record IsAsPromised (tree : MonitorTree) (monitor : MonitorParts) (plan : Plan)
     (whole : List Bool) : Type 0 where
-  pub threads : ThreadsLoseNone monitor plan
+  pub threads : ForEveryChoice monitor (λ opened. ThreadsLoseNone opened plan)
   pub bodies : BodiesStep tree monitor whole
   pub tests : TestsHold tree monitor
   pub shared : TestsAreShared tree monitor
   pub wide : NumbersStayWide tree
-  pub starts : StartIsShort monitor
-  pub moments : MomentsStayShort monitor plan
+  pub starts : ForEveryChoice monitor StartIsShort
+  pub moments : ForEveryChoice monitor (λ opened. MomentsStayShort opened plan)
   -- the blocks that are whole fit under what the plan keeps
   pub fits : AreWhole monitor plan.kept whole
-  pub never : WholeBlocksNeverOverflow monitor plan whole
-  pub calls : WholeCallsNeverOverflow monitor plan whole
+  pub never : ForEveryChoice monitor (λ opened. WholeBlocksNeverOverflow opened plan whole)
+  pub calls : ForEveryChoice monitor (λ opened. WholeCallsNeverOverflow opened plan whole)

@@ -1,8 +1,10 @@
-//! What follows from the definitions alone, of the bytes of files.
+//! What follows from the definitions alone, of the bytes of files and of what is chosen.
 
 ghost use Rattle.std.specs.Prelude.{◌≡◌, ℕ, List};
 ghost use Rattle.lang_tree.specs.declared.tree.MonitorTree.{MonitorTree};
-ghost use Rattle.lang_monitor.specs.MonitorParts.{MonitorParts};
+ghost use Rattle.lang_monitor.specs.MonitorParts.{MonitorParts, IsMonitor};
+ghost use Rattle.lang_monitor.specs.MonitorParts.{opened_with, start_of};
+ghost use Rattle.lang_monitor.specs.Starts.{IsStart};
 ghost use Rattle.machine_implicit.specs.declared.script.Client.{Client};
 ghost use Rattle.expresso_answers.specs.MonitorFiles.{IsAccepted};
 ghost use Rattle.expresso_answers.specs.ClientFiles.{AreAccepted};
@@ -30,3 +32,11 @@ pub fn accepts_one_client_list()
     one_spelling();
     derives_one_tree();
 }
+
+/// Its own start is one with which a monitor may be opened, and so it is opened as it stands: what
+/// holds for every choice (`ForEveryChoice`) holds of the monitor itself.
+pub fn own_start_is_a_choice()
+    ensures may { (monitor : MonitorParts) → IsMonitor monitor
+        → IsStart monitor.fields (start_of monitor) }
+    ensures same { (monitor : MonitorParts) → opened_with monitor (start_of monitor) ≡ monitor }
+{}

@@ -8,7 +8,8 @@
 //! [`finish`] gives the status of a text that was written, and [`show_fault`] writes the line of a
 //! fault. `specs/Exit` says which number stands for a [`Status`].
 //!
-//! The laws of `laws` say that bytes stand for one monitor and one list of clients.
+//! The laws of `laws` say that bytes stand for one monitor and one list of clients, and that what
+//! holds for every choice (`specs/Choices`) holds of a monitor as it stands.
 #![tactic(auto)]
 
 mod client_file;
@@ -21,7 +22,7 @@ mod status;
 mod text;
 
 pub use input::{Input, MonitorText, Opened, input_of, monitor_of, open_both, text_of};
-pub use laws::{accepts_one_client_list, accepts_one_monitor};
+pub use laws::{accepts_one_client_list, accepts_one_monitor, own_start_is_a_choice};
 pub use monitor_file::MonitorFile;
 pub use placement::{Counting, counting_of, placed_of, plan_of};
 pub use reading::OTHER_BYTES;

@@ -5,8 +5,10 @@ use Rattle.std.proofs.lemmas.List.Elements.{All-nil, All-cons}
 use Rattle.lang_tree.specs.declared.tree.MonitorTree.{MonitorTree}
 use Rattle.lang_syntax.specs.Grammar.{IsParsed}
 use Rattle.lang_syntax.proofs.NameLaws.{monitor_named}
+use Rattle.lang_base.specs.declared.value.Value.{Value}
 use Rattle.lang_monitor.specs.declared.monitor.Condition.{Condition}
-use Rattle.lang_monitor.specs.MonitorParts.{MonitorParts, IsMonitor}
+use Rattle.lang_monitor.specs.MonitorParts.{MonitorParts, IsMonitor, opened_with}
+use Rattle.lang_monitor.specs.Starts.{IsStart}
 use Rattle.lang_types.proofs.MonitorMade.{typed_is_monitor}
 use Rattle.lang_types.proofs.Small.{parsed_has_blocks}
 use Rattle.machine_implicit.specs.declared.script.Client.{Client}
@@ -16,12 +18,13 @@ use Rattle.lang_monitor.specs.Inputs.{reads_inputs}
 use Rattle.machine_events.specs.Counts.{IsLawfulByCounting}
 use Rattle.machine_events.specs.Plans.{FitsPlan, IsCondition, WakesAll}
 use Rattle.machine_events.specs.Configurations.{system_under}
-use Rattle.machine_events.specs.Laws.{CountedClosedIsTheEnd, CountedStuckIsTheEnd, CountedWakesArePending, HasCountingPlan, LawfulIsByCounting}
+use Rattle.machine_events.specs.Laws.{CountedClosedIsTheEnd, CountedStuckIsTheEnd, CountedWakesArePending, CountingForEveryChoice, FitsForEveryChoice, HasCountingPlan, LawfulForEveryChoice, LawfulIsByCounting}
 use Rattle.emit_code.specs.Laws.{CountedCodeLosesNone}
 use Rattle.expresso_reports.proofs.LawfulFits.{reading_fits}
 use Rattle.report_audit.specs.declared.finding.Finding.TheVariants as findings
 use Rattle.report_audit.specs.CountedFindings.{IsFindingBy}
 use Rattle.front_command.specs.CommandLine.{audit, recheck}
+use Rattle.expresso_answers.specs.Choices.{ForEveryChoice}
 use Rattle.expresso_answers.specs.MonitorFiles.{IsAccepted}
 use Rattle.expresso_answers.specs.PlanFiles.{MayBeLawful}
 use Rattle.expresso_answers.specs.ReportFiles.{IsRechecked}
@@ -31,8 +34,12 @@ use Rattle.report_tally.specs.CountedVerdicts.{IsCountedAccepted}
 use Rattle.expresso_reports.specs.CheckedPlans.{IsLawfulBy, IsSafePlan, IsSafeReport, LosesNoWakeup, counts_some}
 use Rattle.expresso_answers.proofs.Telling.{holds_same}
 
--- the laws of events and of code
+-- the laws of monitors that are opened, of events and of code
 pub record WakeLaws : Type 0 where
+  pub opened : (monitor : MonitorParts) (start : List Value) → IsMonitor monitor → IsStart monitor.fields start → IsMonitor (opened_with monitor start)
+  pub fits : FitsForEveryChoice
+  pub plain : LawfulForEveryChoice
+  pub counting : CountingForEveryChoice
   pub lawful : LawfulIsByCounting
   pub pending : CountedWakesArePending
   pub ends : CountedStuckIsTheEnd
@@ -60,6 +67,20 @@ loses_none laws count monitor plan is fits lawful =
       closed = λ clients log last scripts legal closed. laws.closed (system_under monitor clients plan) log last (has_counting_plan monitor plan clients is fits counted scripts) legal closed;
       threads = λ clients timed last scripts leads. laws.threads monitor plan clients timed last is scripts fits counted leads;
     }
+
+-- ---- whatever the monitor is opened with
+
+lawful_choice : WakeLaws → (count : Bool) (monitor : MonitorParts) (plan : Plan) (start : List Value) → IsMonitor monitor → IsStart monitor.fields start → IsLawfulBy count monitor plan
+    → IsLawfulBy count (opened_with monitor start) plan
+lawful_choice laws false monitor plan start is may lawful = laws.plain monitor plan start may lawful
+lawful_choice laws true monitor plan start is may lawful = laws.counting monitor plan start is may lawful
+
+every_choice : WakeLaws → (count : Bool) (monitor : MonitorParts) (plan : Plan) → IsMonitor monitor → FitsPlan monitor plan → IsLawfulBy count monitor plan
+    → ForEveryChoice monitor (λ opened. LosesNoWakeup count opened plan)
+every_choice laws count monitor plan is fits lawful = λ start may.
+    loses_none laws count (opened_with monitor start) plan (laws.opened monitor start is may) (laws.fits monitor plan start may fits) (lawful_choice laws count monitor plan start is may lawful)
+
+-- ---- what is lawful
 
 -- what a plan that is found lawful is
 found_lawful : (count : Bool) (monitor : MonitorParts) (plan : Plan) → IsFindingBy count monitor plan findings.Lawful → IsLawfulBy count monitor plan
@@ -109,7 +130,7 @@ safe_report laws held monitor_file report_file text monitor_bytes report_bytes m
       report = report;
       accepted = accepted;
       rechecked = rechecked;
-      safe = loses_none laws (counts_some report.counted) done.monitor report.plan (accepted_is_monitor monitor_bytes done.tree done.monitor accepted)
+      safe = every_choice laws (counts_some report.counted) done.monitor report.plan (accepted_is_monitor monitor_bytes done.tree done.monitor accepted)
           rechecked.accepted.fits (accepted_lawful done.monitor report rechecked.accepted);
     }
 
@@ -128,6 +149,6 @@ safe_plan laws held monitor_file plan_file text monitor_bytes plan_bytes count m
       plan = plan;
       accepted = accepted;
       audited = audited;
-      safe = loses_none laws count done.monitor plan (accepted_is_monitor monitor_bytes done.tree done.monitor accepted)
+      safe = every_choice laws count done.monitor plan (accepted_is_monitor monitor_bytes done.tree done.monitor accepted)
           (reading_fits done.monitor plan audited.is.read.is (lawful_reading count done.monitor plan lawful)) lawful;
     }

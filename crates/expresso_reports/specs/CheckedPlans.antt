@@ -16,6 +16,7 @@ use Rattle.machine_events.specs.Events.{AreEvents}
 use Rattle.machine_events.specs.Logs.{IsLegal, IsClosed}
 use Rattle.machine_events.specs.Pending.{WakePending, IsStuck}
 use Rattle.report_tally.specs.declared.report.CountedReport.{CountedReport}
+use Rattle.expresso_answers.specs.Choices.{ForEveryChoice}
 use Rattle.expresso_answers.specs.MonitorFiles.{IsAccepted}
 use Rattle.expresso_answers.specs.PlanFiles.{MayBeLawful}
 use Rattle.expresso_answers.specs.PrintedPrograms.{ThreadsLoseNone}
@@ -55,23 +56,24 @@ abbrev pub counts_some : List (Option ℕ) → Bool
 counts_some counted = list_any is_some counted
 
 -- The bytes are a monitor's, and those of a report of it: its certificates refute what they should,
--- and its plan loses no wake-up: it is lawful, or where some condition is counted, by counting. (No
--- other monitor has these bytes, and no other report of it: the law `accepts_one_monitor`, and
--- `only` of `IsTextOfCounted`.)
+-- and whatever the monitor is opened with, its plan loses no wake-up: it is lawful, or where some
+-- condition is counted, by counting. (No other monitor has these bytes, and no other report of it:
+-- the law `accepts_one_monitor`, and `only` of `IsTextOfCounted`.)
 pub record IsSafeReport (monitor_bytes report_bytes : List ℕ) : Type 0 where
   pub tree : MonitorTree
   pub monitor : MonitorParts
   pub report : CountedReport
   pub accepted : IsAccepted monitor_bytes tree monitor
   pub rechecked : IsRechecked report_bytes monitor report
-  pub safe : LosesNoWakeup (counts_some report.counted) monitor report.plan
+  pub safe : ForEveryChoice monitor
+      (λ opened. LosesNoWakeup (counts_some report.counted) opened report.plan)
 
--- The bytes are a monitor's, and those of a plan of it that loses no wake-up. (No other plan of it
--- has these bytes: `only` of `IsTextOfPlan`.)
+-- The bytes are a monitor's, and those of a plan of it that loses no wake-up, whatever the monitor
+-- is opened with. (No other plan of it has these bytes: `only` of `IsTextOfPlan`.)
 pub record IsSafePlan (count : Bool) (monitor_bytes plan_bytes : List ℕ) : Type 0 where
   pub tree : MonitorTree
   pub monitor : MonitorParts
   pub plan : Plan
   pub accepted : IsAccepted monitor_bytes tree monitor
   pub audited : MayBeLawful count plan_bytes monitor plan
-  pub safe : LosesNoWakeup count monitor plan
+  pub safe : ForEveryChoice monitor (λ opened. LosesNoWakeup count opened plan)

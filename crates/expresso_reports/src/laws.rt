@@ -14,9 +14,10 @@ ghost use Rattle.expresso_reports.specs.PrintedReports.{IsPrintedFitsReport};
 ghost use Rattle.expresso_reports.specs.PrintedReports.{IsPrintedReport, counted_many};
 
 use emit_code::counted_code_loses_none;
+use lang_monitor::monitors_may_be_opened;
 use lang_syntax::derives_one_tree;
 use lang_tokens::one_spelling;
-use machine_events::counting_loses_no_wakeup;
+use machine_events::{counting_loses_no_wakeup, lawful_for_every_choice};
 use report_proofs::easy_reports_are_accepted;
 use report_tally::{
     counted_text_is_report_text, printed_counted_reports_are_accepted, reports_are_uncounted,
@@ -97,8 +98,8 @@ pub fn printed_fits_are_rechecked()
 
 /// What `recheck` accepts, and what `audit` calls lawful, loses no wake-up: the bytes of the one
 /// file are a monitor's, those of the other are of a plan that fits it and is lawful, with
-/// `--count` by counting, and whatever clients call that fits the monitor, no wake-up of them is
-/// lost under the plan.
+/// `--count` by counting, and whatever the monitor is opened with and whatever clients call that
+/// fits it, no wake-up of them is lost under the plan.
 pub fn checked_plans_lose_no_wakeup()
     ensures reports { (held : List ℕ → Option (List ℕ))
         (monitor_file report_file text monitor_bytes report_bytes : List ℕ)
@@ -111,6 +112,8 @@ pub fn checked_plans_lose_no_wakeup()
         → IsDoneText held (audit monitor_file plan_file count) text
         → IsSafePlan count monitor_bytes plan_bytes }
 {
+    monitors_may_be_opened();
+    lawful_for_every_choice();
     counting_loses_no_wakeup();
     counted_code_loses_none();
 }

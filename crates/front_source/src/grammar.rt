@@ -214,7 +214,7 @@ fn is_joining(sign: &[u8]) -> bool {
     is(sign, "&&") || is(sign, "||")
 }
 
-/// In a declaration of a constant, a field or a local.
+/// In a declaration of a constant, a parameter, a field or a local.
 fn declaration<'a>(place: &Around<'a>) -> Option<Hint<'a>> {
     let here = place.here();
     let named = place.before(2);
@@ -230,6 +230,9 @@ fn declaration<'a>(place: &Around<'a>) -> Option<Hint<'a>> {
     if is(place.before(1), "=") && is_declared(place.before(3)) {
         return Some(begun(place.before(3), here));
     }
+    if is(place.before(2), "=") && is(place.before(4), "param") {
+        return Some(Hint::of(b"a condition stands behind the number, as `where (CAP >= 1)`"));
+    }
     if is(place.before(2), "=") && is_declared(place.before(4)) {
         return Some(behind_value(place.before(1), here));
     }
@@ -238,7 +241,7 @@ fn declaration<'a>(place: &Around<'a>) -> Option<Hint<'a>> {
 
 /// Whether a declaration begins with the word.
 fn is_declared(word: &[u8]) -> bool {
-    is_type(word) || is(word, "const")
+    is_type(word) || is(word, "const") || is(word, "param")
 }
 
 /// Whether the sign is one of sums.
@@ -413,7 +416,7 @@ fn begun_part<'a>(place: &Around<'a>) -> Option<Hint<'a>> {
     }
     match place.braces() {
         0 => None,
-        1 => Some(Hint::of(b"here begins a `const`, an `int`, a `bool` or a `method`")),
+        1 => Some(Hint::of(b"here begins a `const`, a `param`, an `int`, a `bool` or a `method`")),
         _ => Some(Hint::of(b"a statement begins with the name that it assigns, `if` or `return`")),
     }
 }

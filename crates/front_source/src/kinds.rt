@@ -40,7 +40,7 @@ fn is_truth<'a>(place: &Around<'a>) -> bool {
 fn is_number<'a>(place: &Around<'a>) -> bool {
     match place.kind(place.index) {
         Some(TokenKind::Ident) => match declared(place, place.here()) {
-            Some(kind) => kind == TokenKind::KeyInt || kind == TokenKind::KeyConst,
+            Some(kind) => kind != TokenKind::KeyBool,
             None => false,
         },
         Some(kind) => kind == TokenKind::Number,
@@ -48,13 +48,13 @@ fn is_number<'a>(place: &Around<'a>) -> bool {
     }
 }
 
-/// By which word a name was last declared ahead of the place.
+/// By which word a name was last declared ahead of the place: that of a parameter is a name.
 fn declared<'a>(place: &Around<'a>, name: &[u8]) -> Option<TokenKind> {
     for back in 0..place.index {
         let index = place.index - 1 - back;
-        let kind = place.kind(index.saturating_sub(1));
-        if place.text(index) == name && is_declared(kind) {
-            return kind;
+        let before = index.saturating_sub(1);
+        if place.text(index) == name && is_declared(place, before) {
+            return place.kind(before);
         }
     }
     None

@@ -2,7 +2,7 @@
 
 use crate::around::Around;
 use crate::kinds::kind_hint;
-use front_hint::{Hint, is_near, said_of};
+use front_hint::{Hint, is, is_near, said_of};
 use lang_base::{Counted, Refusal};
 use lang_tokens::TokenKind;
 
@@ -57,6 +57,7 @@ fn said_of_rule(what: Refusal) -> Option<&'static [u8]> {
         Refusal::TooLarge => Some(b"a number is at most 9223372036854775807"),
         Refusal::ReadOnly => Some(b"only fields and locals are assigned, no constants and inputs"),
         Refusal::Misplaced => Some(b"a `return` is the last statement of a method, in no `if`"),
+        Refusal::WrongStart => Some(b"the number of a parameter meets its condition"),
         Refusal::TooManyClients => Some(b"there are at most 32 clients"),
         Refusal::TooManyCalls => Some(b"clients make at most 16384 calls, with each `repeat`"),
         _ => None,
@@ -98,21 +99,24 @@ fn did_you_mean<'a>(here: &'a [u8], name: &'a [u8]) -> Hint<'a> {
     Hint::of_two(b"`", here, b"` isn't there, but `", name, b"` is")
 }
 
-/// The first name of a constant, a field, an input or a local that differs in one letter.
+/// The first name of a constant, a parameter, a field, an input or a local that differs in one
+/// letter.
 fn near_name<'a>(place: &Around<'a>, word: &[u8]) -> Option<&'a [u8]> {
     for index in 1..place.tokens.len() {
-        if is_declared(place.kind(index - 1)) && is_near(place.text(index), word) {
+        if is_declared(place, index - 1) && is_near(place.text(index), word) {
             return Some(place.text(index));
         }
     }
     None
 }
 
-/// Whether the name of a value stands behind such a token.
-pub(crate) fn is_declared(kind: Option<TokenKind>) -> bool {
+/// Whether the name of a value stands behind the token of this index.
+pub(crate) fn is_declared<'a>(place: &Around<'a>, index: usize) -> bool {
+    let kind = place.kind(index);
     kind == Some(TokenKind::KeyConst)
         || kind == Some(TokenKind::KeyInt)
         || kind == Some(TokenKind::KeyBool)
+        || is(place.text(index), "param")
 }
 
 /// An unknown method.

@@ -7,7 +7,7 @@ use std::alloc::{AllocError, Global};
 use std::test::Fail;
 
 /// Every rule that a source file may break.
-const ALL: [Refusal; 21] = [
+const ALL: [Refusal; 22] = [
     Refusal::Lex,
     Refusal::Syntax,
     Refusal::Unknown,
@@ -26,6 +26,7 @@ const ALL: [Refusal; 21] = [
     Refusal::TooMany(Counted::Statements),
     Refusal::ReadOnly,
     Refusal::Misplaced,
+    Refusal::WrongStart,
     Refusal::DuplicateClient,
     Refusal::TooManyClients,
     Refusal::TooManyCalls,

@@ -3,6 +3,10 @@ use Rattle.expresso_reports.proofs.laws.checked_plans_lose_no_wakeup.Goals as go
 
 pub returns-clause-reports : goal.returns-clause-reports
 returns-clause-reports c = safe_report (record {
+  opened = c.monitors_may_be_opened.ensures.monitor;
+  fits = c.lawful_for_every_choice.ensures.fits;
+  plain = c.lawful_for_every_choice.ensures.lawful;
+  counting = c.lawful_for_every_choice.ensures.counting;
   lawful = c.counting_loses_no_wakeup.ensures.lawful;
   pending = c.counting_loses_no_wakeup.ensures.pending;
   ends = c.counting_loses_no_wakeup.ensures.ends;
@@ -12,6 +16,10 @@ returns-clause-reports c = safe_report (record {
 
 pub returns-clause-plans : goal.returns-clause-plans
 returns-clause-plans c = safe_plan (record {
+  opened = c.monitors_may_be_opened.ensures.monitor;
+  fits = c.lawful_for_every_choice.ensures.fits;
+  plain = c.lawful_for_every_choice.ensures.lawful;
+  counting = c.lawful_for_every_choice.ensures.counting;
   lawful = c.counting_loses_no_wakeup.ensures.lawful;
   pending = c.counting_loses_no_wakeup.ensures.pending;
   ends = c.counting_loses_no_wakeup.ensures.ends;
