@@ -76,19 +76,41 @@ class Reader:
             self.stop()
         return level + 1
 
+    def take_name(self, name):
+        """Takes one name of these letters."""
+        if not self.sees_name(name):
+            self.stop()
+        self.take(b"ident")
+
     def monitor(self):
         self.each(b"monitor", b"ident", b"{")
-        while self.sees(b"const", b"int", b"bool"):
+        while self.sees(b"const", b"int", b"bool") or self.sees_name(b"param"):
             self.declaration()
         while self.sees(b"method"):
             self.method()
         self.each(b"}", b"end")
 
     def declaration(self):
+        if self.sees_name(b"param"):
+            self.parameter()
+            return
         kind = self.take(b"const", b"int", b"bool")
         self.each(b"ident", b"=")
-        self.take(b"true", b"false") if kind == b"bool" else self.written()
+        if kind == b"int" and self.sees(b"ident"):
+            self.take(b"ident")
+        else:
+            self.take(b"true", b"false") if kind == b"bool" else self.written()
         self.take(b";")
+
+    def parameter(self):
+        self.take_name(b"param")
+        self.each(b"ident", b"=")
+        self.written()
+        self.take_name(b"where")
+        self.each(b"(", b"ident")
+        self.take(b"==", b"<", b"<=", b">", b">=")
+        self.written()
+        self.each(b")", b";")
 
     def written(self):
         if self.sees(b"-"):

@@ -33,8 +33,13 @@ MOST_BYTES = 4096
 PATIENCE = 60
 FOLDERS = ("crates", "bench", "examples")
 
-# `asserts` is no keyword, but a word ahead of a guard, which is no call; and the words behind which it is a name.
-ASSERTS = re.compile(r"asserts(?=[ \t\r]*\()(?![ \t\r]*\([^;{}\n]*\)[ \t\r]*;)")
+# Words that are no keywords: `asserts` ahead of a guard, which is no call, `param` ahead of a name that is declared,
+# and `where` ahead of a parameter's condition; and the words behind which they are names.
+OTHER_WORDS = {"asserts", "param", "where"}
+IS_WORD = re.compile(
+    r"asserts(?=[ \t\r]*\()(?![ \t\r]*\([^;{}\n]*\)[ \t\r]*;)|param(?=[ \t\r]+[A-Za-z_][A-Za-z_0-9]*[ \t\r]*=)"
+    r"|where(?=[ \t\r]*\([ \t\r]*[A-Za-z_][A-Za-z_0-9]*[ \t\r]*[=<>])"
+)
 NAMING = {"monitor", "client", "method", "const", "int", "bool"}
 
 # What stands in a text, by the beginnings of TextMate's scopes, and by the groups to which Vim's are linked.
@@ -62,6 +67,7 @@ ROLES = {
     "method": ("entity.name.function.expresso", "expressoMethodName"),
     "call": ("entity.name.function.call.expresso", "expressoCall"),
     "constant": ("variable.other.constant.expresso", "expressoConstant"),
+    "parameter": ("variable.other.parameter.expresso", "expressoParameter"),
     "field": ("variable.other.field.expresso", "expressoField"),
     "local": ("variable.other.local.expresso", "expressoLocal"),
     "input": ("variable.parameter.expresso", "expressoInput"),
@@ -73,6 +79,8 @@ ROLES = {
 EXAMPLES = (
     """monitor Cell'monitor {
   const MOST'constant = 4; int held'field = -1;
+  param CAP'parameter = 9 where (CAP'used >= -1); int free'field = CAP'used;
+  int param'field = 1; param where'parameter = 2 where(where'used<3);
   bool full'field = false;
   method put'method(int n'input, bool keep'input)
     local int before'local = 0; local bool was'local = true;
@@ -91,7 +99,7 @@ EXAMPLES = (
     }
 }
 """,
-    """client A'client { put'call(3, true); try get'call (); repeat 2 { get'call(); } asserts'call(); try asserts'call (1); }
+    """client A'client { put'call(3, true); try get'call (); repeat 2 { get'call(); } asserts'call(); try asserts'call (1); where'call (2); }
 client B'client{}
 """,
 )
@@ -160,7 +168,7 @@ def tokens(text):
     word = ""
     for piece in pieces().finditer(text):
         kind = kind_of(piece)
-        if word not in NAMING and ASSERTS.match(text, piece.start()):
+        if word not in NAMING and IS_WORD.match(text, piece.start()):
             kind = "keyword"
         if kind not in ("blank", "comment"):
             word = piece[0]
@@ -238,7 +246,7 @@ def role_faults(editor, text, roles, found):
 
 def keyword_faults(editor, spelled):
     """The keywords that an editor's file lacks, and the words that are none."""
-    for word in sorted(keywords() ^ spelled - {"asserts"}):
+    for word in sorted(keywords() ^ spelled - OTHER_WORDS):
         yield f"{editor}: {'lacks the keyword' if word in keywords() else 'no keyword:'} {word}"
 
 

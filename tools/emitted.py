@@ -17,9 +17,9 @@ from rust_bodies import (Scope, answer, argument_texts, can_name, doc_text,  # n
                          function_texts, kind_text, run_name, shortens, trace, way_name)
 from rust_comments import Comments  # noqa: E402
 from rust_names import Names, lints  # noqa: E402
-from rust_texts import COPY, DATA, DEBUG, DEFAULT, FAILED, FIELDS, HEAD, INNER, LOCK, METHODS  # noqa: E402
-from rust_texts import NEW, OVERFLOW, REFUSED, SKIP, STATE, STATE_HEAD, USED, VERSION, WAIT  # noqa: E402
-from rust_texts import TIMES, WHOLE, WITH_DATA  # noqa: E402
+from rust_texts import ADMITS, CHOICE, CHOSEN_DATA, CHOSEN_NEW, CHOSEN_START, COPY, DATA, DEBUG  # noqa: E402
+from rust_texts import DEFAULT, FAILED, FIELDS, HEAD, INNER, LOCK, METHODS, NEW, OVERFLOW  # noqa: E402
+from rust_texts import REFUSED, SKIP, START, STATE, TIMES, USED, VERSION, WAIT, WHOLE, WITH_DATA  # noqa: E402
 from trees import read_tree  # noqa: E402
 
 ALWAYS = joined("all", [])
@@ -268,9 +268,10 @@ def module_text(source):
     used = f"use std::sync::{used};\n" + "use std::time::{Duration, Instant};\n" * times
     parts = [HEAD % (source.tree.name, VERSION), f"{used}\n",
              struct_text(source, kind, lint, waited), impl_text(source, kind, lint, waited),
-             f"impl Default for {kind}{DEFAULT}", f"impl<D> std::fmt::Debug for {kind}<D>{DEBUG % kind}",
+             "" if source.names.parameters else f"impl Default for {kind}{DEFAULT}",
+             f"impl<D> std::fmt::Debug for {kind}<D>{DEBUG % kind}",
              inner_text(source, lint, waited), f"{FIELDS}{lint}struct State {{{state_fields(source)}}}\n\n", STATE,
-             f"{lint}{STATE_HEAD}{starts(source)}}};\n", functions(source), "}\n"]
+             f"{lint}impl State {{\n{starts(source)}", functions(source), "}\n"]
     own = [LOCK] * bool(source.blocks) + [WAIT] * bool(waited) + [TIMES] * times + [OVERFLOW] * fails
     own += [REFUSED] * (False in refused) + [FAILED] * (True in refused)
     own += [WHOLE] * any(map(source.shortens, range(len(source.blocks))))
@@ -318,9 +319,31 @@ def impl_text(source, kind, lint, waited):
     conditions = f"{counts}                data,\n            }}),\n{conditions}"
     methods = "".join(methods_text(source, method, first) for method, first in methods_of(source))
     gap = "\n" if constants else ""
-    return (f"{SKIP}{lint}impl {kind} {{\n{constants}{gap}{NEW}"
-            f"{METHODS}impl<D> {kind}<D> {{\n{WITH_DATA}{conditions}        }}\n    }}\n\n{DATA}"
+    new, with_data = openings(source, kind)
+    return (f"{SKIP}{lint}impl {kind} {{\n{constants}{gap}{new}"
+            f"{METHODS}impl<D> {kind}<D> {{\n{with_data}{conditions}        }}\n    }}\n\n{DATA}"
             f"{methods}}}\n\n")
+
+
+def openings(source, kind):
+    """What opens a monitor with no data, and the head of what opens it with some."""
+    if not source.names.parameters:
+        return NEW, WITH_DATA
+    shown = " && ".join(f"{one.name} {' '.join(one.limit)}" for one in source.names.parameters)
+    tests = " && ".join(f"{source.names.member(one.name)} {' '.join(one.limit)}" for one in source.names.parameters)
+    taken, given = taken_text(source), ", ".join(source.names.member(one.name) for one in source.names.parameters)
+    docs = CHOICE % ("".join(parameter_docs(source, one.name) for one in source.names.parameters), shown)
+    return (ADMITS % (shown, taken, tests) + CHOSEN_NEW % (docs, taken, given),
+            CHOSEN_DATA % (docs, taken, kind, given, kind, shown, given))
+
+
+def parameter_docs(source, name):
+    docs = source.comments.of_parameter(name)
+    return f"    ///\n    /// The parameter `{name}`" + (f":\n{docs}" if docs else ".\n")
+
+
+def taken_text(source):
+    return ", ".join(f"{source.names.member(one.name)}: i64" for one in source.names.parameters)
 
 
 def fields_of(source):
@@ -334,8 +357,21 @@ def state_fields(source):
 
 
 def starts(source):
-    lines = [f"        {source.names.member(one.name)}: {one.start},\n" for one in fields_of(source)]
-    return "".join(["\n"] + lines + ["    "]) if lines else ""
+    deeper = "    " * bool(source.names.parameters)
+    lines = [f"{deeper}        {start_text(source, one)},\n" for one in fields_of(source)]
+    fields = "".join(["\n"] + lines + [deeper + "    "]) if lines else ""
+    return CHOSEN_START % (taken_text(source), fields) if deeper else START % fields
+
+
+def start_text(source, field):
+    """A parameter is what is taken, and a field may be a constant or a parameter of a name."""
+    names, constants = source.names, [one.name for one in source.tree.declared if one.kind == "const"]
+    if field.limit:
+        return names.member(field.name)
+    if field.kind == "bool" or re.fullmatch(r"-?\d+", field.start):
+        return f"{names.member(field.name)}: {field.start}"
+    copied = f"{names.type_name()}::{names.constant(field.start)}" if field.start in constants else names.member(field.start)
+    return f"{names.member(field.name)}: {copied}"
 
 
 def functions(source):

@@ -42,7 +42,7 @@ HEADS = {
     "unknown name": ["method a(int k) waituntil (true) { } method b() waituntil (true) { x = k; }"],
     "name used twice": ["method m(int x) waituntil (true) { }", "method x() waituntil (true) { }"],
 }
-FIELDS = {"syntax": ["int y;", "const A = C + 1;", "int b = C;"]}
+FIELDS = {"syntax": ["int y;", "const A = C + 1;", "const b = C;"]}
 CLIENTS = {"unknown method": "client A { nope(); }", "wrong number of arguments": "client A { acquire(1); }"}
 OTHER_WORDS = ["check data/lock.mon --relay", "run data/lock.mon data/locks.cl --relay --relay",
                "simulate data/lock.mon data/locks.cl --spurious 3", "run data/lock.mon data/locks.cl --workers 17",

@@ -9,14 +9,17 @@ from formulas import (CONSTANT, Formula, at_most, combined, flag, forms_of, is_c
                       negation, number, substituted)
 
 MOST_BOUNDS = 12
+LEAST, GREATEST = -2 ** 63, 2 ** 63 - 1
 MOST_INPUTS = 6  # the locals stand after them
 OWN, WAITING = 16, 32  # first places: of a block's inputs, and of those of a client that waits
 
-# a field is its name, variable and start; a statement is (variable, value) or (if, then, else);
+# a field is its name, variable and start; `limits` has the least and the greatest number of each
+# parameter, by its name, one of them None where only the other is said, and `copies` the variable of
+# the parameter that a field starts as; a statement is (variable, value) or (if, then, else);
 # `waiting` is the guard at the inputs and locals of a client that waits, and `failing` its negation;
 # `own` and `others` are the inputs and locals of a block and of such a client, with their variables;
 # the condition of a block that asserts is 0, and there is none of this number
-Monitor = namedtuple("Monitor", "name fields blocks conditions")
+Monitor = namedtuple("Monitor", "name fields blocks conditions limits copies")
 Block = namedtuple("Block", "name guard body condition own")
 Condition = namedtuple("Condition", "guard waiting failing reads_inputs shown others")
 
@@ -87,19 +90,37 @@ def read_monitor(text):
 
 def monitor_of(text):
     lines = [line.strip(" ;") for line in text.splitlines()][::-1]
-    monitor = Monitor(lines.pop().split()[1], [], [], [])
+    monitor = Monitor(lines.pop().split()[1], [], [], [], {}, {})
     scope = {"true": joined("all", []), "false": joined("any", [])}
     while lines:
         line = lines.pop()
         if line.startswith("method "):
             read_method(monitor, line, lines, scope)
         elif line != "}":
-            kind, name, _, start = line.split(" ", 3)
-            scope[name] = start = read(start, scope)
-            if kind != "const":
-                scope[name] = variable(kind, len(monitor.fields))
-                monitor.fields.append((name, scope[name], start))
+            declare(monitor, line, scope)
     return monitor
+
+
+def declare(monitor, line, scope):
+    kind, name, _, start = line.split(" ", 3)
+    scope[name] = value = read(start, scope)
+    for parameter, field, default in monitor.fields:
+        if parameter in monitor.limits and value == field:
+            monitor.copies[name], value = field, default
+    if kind == "param":
+        sign, bound = re.fullmatch(r"-?\d+ where \(\w+ (\S+) (-?\d+)\)", start).groups()
+        monitor.limits[name] = limit(sign, int(bound))
+        kind = "int"
+    if kind != "const":
+        scope[name] = variable(kind, len(monitor.fields))
+        monitor.fields.append((name, scope[name], value))
+
+
+def limit(sign, bound):
+    """The least and the greatest number that compare so with the bound."""
+    least = bound + (sign == ">") if sign in ("==", ">", ">=") else None
+    greatest = bound - (sign == "<") if sign in ("==", "<", "<=") else None
+    return least, greatest
 
 
 def read_method(monitor, line, lines, scope):
@@ -139,10 +160,23 @@ def condition_of(monitor, shown, guard, waiting, others):
 
 
 def holds_at_start(monitor, fact):
-    """Whether the row or flag is true with each field's start in its place."""
-    for _, field, start in monitor.fields:
-        fact = substituted(fact, field, start)
-    return fact.value.get(CONSTANT, 0) <= 0 if fact.kind == "row" else fact.kind == "all"
+    """Whether the row or flag is true with each field's start in its place, whatever each parameter is."""
+    for name, field, start in monitor.fields:
+        if name not in monitor.limits:
+            fact = substituted(fact, field, monitor.copies.get(name, start))
+    return greatest_value(monitor, fact.value) <= 0 if fact.kind == "row" else fact.kind == "all"
+
+
+def greatest_value(monitor, form):
+    """That of a form of parameters."""
+    found = form.get(CONSTANT, 0)
+    for name, field, _ in monitor.fields:
+        if name in monitor.limits:
+            (place, _), (least, greatest) = *field.items(), monitor.limits[name]
+            times = form.get(place, 0)
+            found += times * ((LEAST if least is None else max(LEAST, least)) if times < 0
+                              else (GREATEST if greatest is None else min(GREATEST, greatest)))
+    return found
 
 
 def read_body(lines, scope):
@@ -170,7 +204,7 @@ def candidates_of(monitor):
         if isinstance(field, Formula):
             found += [(name, field), ("!" + name, negation(field))]
         else:
-            for bound in pool(forms, field, start):
+            for bound in pool(forms, field, own_numbers(monitor, name, start)):
                 found.append((f"{name} <= {bound}", at_most(field, number(bound))))
                 found.append((f"{name} >= {bound}", at_most(number(bound), field)))
     ints = [(name, field) for name, field, _ in monitor.fields if not isinstance(field, Formula)]
@@ -178,9 +212,17 @@ def candidates_of(monitor):
     return found + [(f"{left} <= {right}", at_most(x, y)) for (left, x), (right, y) in pairs]
 
 
-def pool(forms, field, start):
-    """0, the start, and the numbers around each d of a row that says field <= d or field >= d."""
-    bounds = [0, start.get(CONSTANT, 0)]
+def own_numbers(monitor, name, start):
+    """The start of a field, the bound of a parameter, and nothing where the field copies one."""
+    if name in monitor.limits:
+        least, greatest = monitor.limits[name]
+        return [greatest if least is None else least]
+    return [] if name in monitor.copies else [start.get(CONSTANT, 0)]
+
+
+def pool(forms, field, own):
+    """0, the own numbers, and those around each d of a row that says field <= d or field >= d."""
+    bounds = [0, *own]
     for form, sign in itertools.product(forms, (1, -1)):
         rest = combined(sign, form, -1, field)  # of such a row it is -d
         if is_constant(rest):

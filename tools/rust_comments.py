@@ -34,7 +34,7 @@ class Comments:
         self.lines = text.split("\n")
         bare = re.sub("//.*", lambda found: " " * len(found[0]), text)
         self.places = {(found[1], found[2]): text[:found.start(2)].count("\n")
-                       for found in re.finditer(r"\b(const|method)\s+(\w+)", bare)}
+                       for found in re.finditer(r"\b(const|param|method)\s+(\w+)", bare)}
         spare = [not line.strip(BLANKS) or is_comment(line) for line in self.lines]
         self.first = spare.index(False) if False in spare else len(spare)
 
@@ -59,3 +59,6 @@ class Comments:
 
     def of_constant(self, name):
         return self.above(self.places["const", name], "    ")
+
+    def of_parameter(self, name):
+        return self.above(self.places["param", name], "    ")

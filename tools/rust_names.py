@@ -9,6 +9,7 @@ KEYWORDS = set(
 TYPE_WORDS = set("Inner State Overflow Refused Failed Mutex MutexGuard Condvar PoisonError Default From Result "
                  "Drop FnOnce HandOn D R Duration Instant Option".split())
 MEMBER_WORDS = set("new with_data get_mut into_inner is_poisoned".split())
+CHOICE_WORDS = set("admits data Ok Err Some None Overflow Refused HandOn".split())
 OWN_WORDS = set("inner copy next answer f hand result end time left lock wait wait_for time_left narrow whole drop "
                 "Ok Err Some None Overflow Refused HandOn".split())
 
@@ -61,15 +62,17 @@ class Names:
 
     def __init__(self, tree):
         self.tree, self.members = tree, members_of(tree)
+        self.parameters = [one for one in tree.declared if one.limit]
+        self.words = MEMBER_WORDS | CHOICE_WORDS if self.parameters else MEMBER_WORDS
 
     def type_name(self):
         return escaped(TYPE_WORDS, camel(self.tree.name))
 
     def member(self, name):
-        return named(MEMBER_WORDS, self.members, name)
+        return named(self.words, self.members, name)
 
     def constant(self, name):
-        return named(MEMBER_WORDS, self.members, name, str.upper)
+        return named(self.words, self.members, name, str.upper)
 
     def tried(self, name):
         """Of the calls of a method that try."""

@@ -38,6 +38,44 @@ WITH_DATA = """\
                 state: State::START,
 """
 
+ADMITS = """\
+    /// Whether the monitor may have these parameters: whether `%s`.
+    #[must_use]
+    #[allow(unused_comparisons, clippy::all, clippy::pedantic)]
+    pub const fn admits(%s) -> bool {
+        %s
+    }
+
+"""
+
+CHOICE = """\
+%s    ///
+    /// # Panics
+    ///
+    /// Where `%s` is false: then a `const` or a `static` does not compile.
+    #[must_use]
+    #[track_caller]
+    #[allow(clippy::similar_names, clippy::too_many_arguments)]
+"""
+
+CHOSEN_NEW = """\
+    /// The monitor at its start.
+%s    pub const fn new(%s) -> Self {
+        Self::with_data(%s, ())
+    }
+}
+
+"""
+
+CHOSEN_DATA = """\
+    /// The monitor at its start, with these data.
+%s    pub const fn with_data(%s, data: D) -> Self {
+        assert!(%s::admits(%s), "%s wants %s");
+        Self {
+            inner: Mutex::new(Inner {
+                state: State::start(%s),
+"""
+
 DATA = """\
     /// The data, which nobody shares now.
     #[must_use]
@@ -111,9 +149,15 @@ STATE = """\
 #[allow(unused, unused_comparisons, clippy::all, clippy::pedantic)]
 """
 
-STATE_HEAD = """\
-impl State {
-    const START: Self = Self {"""
+START = """\
+    const START: Self = Self {%s};
+"""
+
+CHOSEN_START = """\
+    const fn start(%s) -> Self {
+        Self {%s}
+    }
+"""
 
 LOCK = """
 /// Locks the monitor, poisoned or not: where a function panicked its block changed no field.

@@ -4,10 +4,11 @@ import re
 import sys
 from collections import namedtuple
 
-# of a declaration `kind` is const, int or bool; of a method `inputs` and `own_locals` are such, and
+# of a declaration `kind` is const, int or bool; a parameter is an int with a limit, a sign and a
+# number, and `start` may be the name of another. Of a method `inputs` and `own_locals` are such, and
 # `asserts` says whether its only guard is asserted
 Monitor = namedtuple("Monitor", "name declared methods")
-Declared = namedtuple("Declared", "kind name start")
+Declared = namedtuple("Declared", "kind name start limit", defaults=[None])
 Method = namedtuple("Method", "name inputs own_locals asserts blocks")
 Block = namedtuple("Block", "shown guard body")
 
@@ -81,6 +82,9 @@ def tree_of(text):
 
 def declared(line):
     kind, name, _, start = line.split(" ", 3)
+    if kind == "param":
+        start, *limit = re.fullmatch(r"(-?\d+) where \(\w+ (\S+) (-?\d+)\)", start).groups()
+        return Declared("int", name, start, tuple(limit))
     return Declared(kind, name, start)
 
 
