@@ -17,6 +17,7 @@ syntax match expressoMonitorName /\h\w*/ contained
 syntax match expressoClientName /\h\w*/ contained
 syntax match expressoMethodName /\h\w*/ contained nextgroup=expressoInputs skipwhite skipempty
 syntax match expressoConstant /\h\w*/ contained
+syntax match expressoParameter /\h\w*/ contained
 syntax match expressoField /\h\w*/ contained
 syntax match expressoLocal /\h\w*/ contained
 syntax match expressoInputError /[^ \t\r(){};]/ contained
@@ -32,6 +33,9 @@ syntax match expressoComment +//.*+ contains=@Spell
 syntax match expressoStatement /\%(waituntil\|return\|try\)\w\@!/
 " `asserts` is a word ahead of a guard alone: before a parenthesis, and not in a call.
 syntax match expressoAsserts /asserts\%(\s*(\)\@=\%(\s*([^;{}]*)\s*;\)\@!/
+" `param` and `where` are words ahead of a name that is declared and of a condition alone.
+syntax match expressoParam /param\%(\s\+\h\w*\s*=\)\@=/ nextgroup=@expressoWord,expressoParameter skipwhite
+syntax match expressoWhere /where\%(\s*(\s*\h\w*\s*[=<>]\)\@=/
 syntax match expressoConditional /\%(if\|else\)\w\@!/
 syntax match expressoRepeat /repeat\w\@!/
 syntax match expressoBoolean /\%(true\|false\)\w\@!/
@@ -62,6 +66,8 @@ highlight default link expressoLocalType Type
 highlight default link expressoInputType Type
 highlight default link expressoStatement Statement
 highlight default link expressoAsserts Statement
+highlight default link expressoParam StorageClass
+highlight default link expressoWhere Statement
 highlight default link expressoConditional Conditional
 highlight default link expressoRepeat Repeat
 highlight default link expressoBoolean Boolean
@@ -74,6 +80,7 @@ highlight default link expressoClientName Typedef
 highlight default link expressoMethodName Function
 highlight default link expressoCall Function
 highlight default link expressoConstant Constant
+highlight default link expressoParameter Constant
 highlight default link expressoField Identifier
 highlight default link expressoLocal Identifier
 highlight default link expressoInput Identifier
