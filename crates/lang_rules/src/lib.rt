@@ -7,6 +7,7 @@
 #![tactic(auto)]
 
 mod blocks;
+mod declarations;
 mod laws;
 mod limits;
 mod methods;

@@ -43,7 +43,7 @@ fn fault_in_method(
     ensures { IfOk result (λ fault. fault ≡ least (method_faults decls.now method.now)) }
 {
     let scope = scope_of(alloc, decls, method)?;
-    scope_numbers_are_small();
+    scope_numbers_are_small(); // as the rules of expressions ask of a scope
     let blocks = method.blocks.items();
     let inner = fault_in_blocks(alloc, scope.items(), blocks)?;
     let first = earlier_of(own_fault(decls, method), inner);

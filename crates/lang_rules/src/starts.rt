@@ -1,7 +1,7 @@
 //! The rules of parameters, and of starts that are copied.
 
 ghost use Rattle.std.specs.Prelude.{◌≡◌, [], ◌∷◌, if◌then◌else◌};
-ghost use Rattle.std.specs.List.{flat_map, list_any};
+ghost use Rattle.std.specs.List.{list_any};
 ghost use Rattle.lang_base.specs.declared.source_fault.Refusal.TheVariants.{Unknown, WrongStart};
 ghost use Rattle.lang_base.specs.SourceFaults.{fault_at, least};
 ghost use Rattle.lang_forms.specs.Plain.{compared};
@@ -9,6 +9,7 @@ ghost use Rattle.lang_rules.specs.Rules.{comparison_of, faults_in_sources, fault
 ghost use Rattle.lang_rules.specs.Rules.{is_source, is_wrong_start, source_faults, start_faults};
 ghost use Rattle.lang_rules.specs.Rules.{subject_faults};
 
+use crate::declarations::{DeclRule, first_fault};
 use lang_base::{Name, Refusal, SourceFault, earlier_of, limits};
 use lang_forms::number_of;
 use lang_tree::{Decl, LimitSign, LimitTree, Lit};
@@ -18,34 +19,28 @@ pub(crate) fn fault_in_starts(decls: &[Decl]) -> Option<SourceFault>
     ensures { result ≡ least (faults_in_starts decls.now) }
 {
     earlier_of(
-        earlier_of(other_subject(decls), unknown_source(decls)),
-        wrong_start(decls),
+        earlier_of(first_fault::<OwnSubjects>(decls), unknown_source(decls)),
+        first_fault::<MetStarts>(decls),
     )
 }
 
-/// The first condition of a parameter that is on another name.
-fn other_subject(decls: &[Decl]) -> Option<SourceFault>
-    ensures { result ≡ least (flat_map subject_faults decls.now) }
-{
-    let mut fault = None;
-    for decl in decls {
-        fault = earlier_of(fault, subject_fault(decl));
-    }
-    fault
-}
+/// The condition of a parameter is on its own name.
+struct OwnSubjects;
 
-fn subject_fault(decl: &Decl) -> Option<SourceFault>
-    ensures { result ≡ least (subject_faults decl.now) }
-{
-    match decl {
-        Decl::Const { .. } => None,
-        Decl::Param { name, limit, .. } => unknown_unless(
-            limit.subject.name.bytes() == name.bytes(),
-            limit.subject.at,
-        ),
-        Decl::Int { .. } => None,
-        Decl::Copied { .. } => None,
-        Decl::Flag { .. } => None,
+impl DeclRule for OwnSubjects {
+    ghost faults = { subject_faults };
+
+    fn fault_of(decl: &Decl) -> Option<SourceFault> {
+        match decl {
+            Decl::Const { .. } => None,
+            Decl::Param { name, limit, .. } => unknown_unless(
+                limit.subject.name.bytes() == name.bytes(),
+                limit.subject.at,
+            ),
+            Decl::Int { .. } => None,
+            Decl::Copied { .. } => None,
+            Decl::Flag { .. } => None,
+        }
     }
 }
 
@@ -108,26 +103,22 @@ fn unknown_unless(known: bool, at: u32) -> Option<SourceFault>
     }
 }
 
-/// The first own number of a parameter that doesn't meet its condition.
-fn wrong_start(decls: &[Decl]) -> Option<SourceFault>
-    ensures { result ≡ least (flat_map start_faults decls.now) }
-{
-    let mut fault = None;
-    for decl in decls {
-        fault = earlier_of(fault, start_fault(decl));
-    }
-    fault
-}
+/// The own number of a parameter meets its condition.
+struct MetStarts;
 
-fn start_fault(decl: &Decl) -> Option<SourceFault>
-    ensures { result ≡ least (start_faults decl.now) }
-{
-    match decl {
-        Decl::Const { .. } => None,
-        Decl::Param { value, limit, .. } => wrong_start_at(is_wrong_start(value, limit), value.at),
-        Decl::Int { .. } => None,
-        Decl::Copied { .. } => None,
-        Decl::Flag { .. } => None,
+impl DeclRule for MetStarts {
+    ghost faults = { start_faults };
+
+    fn fault_of(decl: &Decl) -> Option<SourceFault> {
+        match decl {
+            Decl::Const { .. } => None,
+            Decl::Param { value, limit, .. } => {
+                wrong_start_at(is_wrong_start(value, limit), value.at)
+            }
+            Decl::Int { .. } => None,
+            Decl::Copied { .. } => None,
+            Decl::Flag { .. } => None,
+        }
     }
 }
 

@@ -10,5 +10,5 @@ returns c =
     let decls = c.args.decls.now in
     let subjects = flat_map subject_faults decls in
     let sources = faults_in_sources [] decls in
-    let both = c.earlier_of.ensures ∙ least_both order _ _ subjects sources c.other_subject.ensures c.unknown_source.ensures in
-    c.earlier_of-2.ensures ∙ least_both order _ _ (subjects ++ sources) (flat_map start_faults decls) both c.wrong_start.ensures
+    let both = c.earlier_of.ensures ∙ least_both order _ _ subjects sources c.first_fault.ensures c.unknown_source.ensures in
+    c.earlier_of-2.ensures ∙ least_both order _ _ (subjects ++ sources) (flat_map start_faults decls) both c.first_fault-2.ensures
