@@ -1,7 +1,6 @@
 //! The parameters of a monitor in a row.
 
 ghost use Rattle.std.specs.Prelude.{◌≡◌, ◌||◌, ◌++◌, codes};
-ghost use Rattle.lang_printer.specs.Canonical.{limit_sign_text};
 ghost use Rattle.emit_names.specs.Names.{member_name};
 ghost use Rattle.emit_names.specs.declared.style.Style.TheVariants as styles;
 ghost use Rattle.emit_choices.specs.Lists.{item_text, items_text, parameter_text, parameters_text};
@@ -12,7 +11,8 @@ use crate::declared::write_literal;
 use base_io::{Sink, SinkFailed, write_piece};
 use emit_names::{Style, is_parameter, write_member};
 use lang_base::Name;
-use lang_tree::{Decl, LimitSign, LimitTree, MonitorTree};
+use lang_printer::limit_sign_bytes;
+use lang_tree::{Decl, LimitTree, MonitorTree};
 
 /// What is written of each parameter: what a function takes, `cap: i64`; what it is given, `cap`;
 /// its test, `cap >= 1`; or its condition as the monitor has it, `CAP >= 1`.
@@ -165,18 +165,6 @@ fn write_shown<S: Sink>(name: &Name, limit: &LimitTree, out: &mut S) -> Result<(
 fn write_test<S: Sink>(limit: &LimitTree, out: &mut S) -> Result<(), SinkFailed>
     ensures { Wrote (S.seen out.old) (S.seen out.new) result (test_text limit.now) }
 {
-    write_piece(limit_sign(limit.sign), out)?;
+    write_piece(limit_sign_bytes(limit.sign), out)?;
     write_literal(limit.bound, out)
-}
-
-fn limit_sign(sign: LimitSign) -> &'static [u8]
-    ensures { result.now ≡ limit_sign_text sign }
-{
-    match sign {
-        LimitSign::Equal => b" == ",
-        LimitSign::Less => b" < ",
-        LimitSign::AtMost => b" <= ",
-        LimitSign::More => b" > ",
-        LimitSign::AtLeast => b" >= ",
-    }
 }

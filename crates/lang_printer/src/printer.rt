@@ -133,7 +133,8 @@ fn write_compared<'a, S: Sink>(
     write_pieces(&[subject.bytes(), sign, minus, digits, b");\n"], out)
 }
 
-fn limit_sign_bytes(sign: LimitSign) -> &'static [u8]
+/// The sign of a parameter's condition, between spaces: ` == `, ` < `, ` <= `, ` > ` or ` >= `.
+pub fn limit_sign_bytes(sign: LimitSign) -> &'static [u8]
     ensures { result.now ≡ limit_sign_text sign }
 {
     match sign {
