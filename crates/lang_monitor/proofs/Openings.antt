@@ -1,5 +1,5 @@
 -- A monitor that is opened with some values.
-use Rattle.std.proofs.Common.{◌≡◌, ◌≢◌, ℕ, zero, suc, ◌+◌, List, [], ◌∷◌, ◌++◌, length, map, refl, sym, ap, subst, ◌∙◌}
+use Rattle.std.proofs.Common.{◌≡◌, ◌≢◌, ℕ, zero, suc, ◌+◌, ◌<◌, List, [], ◌∷◌, ◌++◌, length, map, take, slice_index_or, slice_set, refl, sym, ap, subst, ◌∙◌, arith}
 use Rattle.std.specs.Prelude.{Some, None, Option, slice_get, IsSomeAnd}
 use Rattle.std.specs.List.{All, AllPairs}
 use Rattle.std.proofs.lemmas.List.Elements.{All-nil, All-cons, All-head, All-tail}
@@ -34,10 +34,47 @@ started_names [] start = refl
 started_names (field ∷ fields) [] = refl
 started_names (field ∷ fields) (value ∷ more) = ap (λ (rest : List (List ℕ)). field.name ∷ rest) (started_names fields more)
 
-started_length : (fields : List Field) (start : List Value) → length (started fields start) ≡ length fields
+pub started_length : (fields : List Field) (start : List Value) → length (started fields start) ≡ length fields
 started_length [] start = refl
 started_length (field ∷ fields) [] = refl
 started_length (field ∷ fields) (value ∷ more) = ap suc (started_length fields more)
+
+-- ---- one field after the other
+
+pub started_none : (fields : List Field) → started fields [] ≡ fields
+started_none [] = refl
+started_none (field ∷ fields) = refl
+
+take_none : {X : Type 0} (xs : List X) → take 0 xs ≡ []
+take_none [] = refl
+take_none (x ∷ xs) = refl
+
+abbrev beginning : Field → Value → Field
+beginning field value = record { name = field.name; kind = field.kind; start = value; origin = field.origin }
+
+begun_at : (fields : List Field) (start : List Value) (place : ℕ) (d : Value) (x : Field) → place < length fields → place < length start
+    → slice_set (started fields (take place start)) place (beginning (slice_index_or (started fields (take place start)) place x) (slice_index_or start place d)) ≡ started fields (take (suc place) start)
+begun_at [] start place d x within low = absurd (omega (arith, within))
+begun_at (field ∷ fields) [] place d x within low = absurd (omega (arith, low))
+begun_at (field ∷ fields) (value ∷ more) zero d x within low =
+    ap (λ (rest : List Field). beginning field value ∷ rest) (sym (ap (started fields) (take_none more) ∙ started_none fields))
+begun_at (field ∷ fields) (value ∷ more) (suc place) d x within low =
+    ap (λ (rest : List Field). beginning field value ∷ rest) (begun_at fields more place d x (omega (arith, within)) (omega (arith, low)))
+
+-- with the values before a place, and then with the one that stands there, too
+pub one_more_begun : (fields now : List Field) (start : List Value) (place : ℕ) (d : Value) (x : Field) → now ≡ started fields (take place start) → place < length fields → length fields ≡ length start
+    → slice_set now place (beginning (slice_index_or now place x) (slice_index_or start place d)) ≡ started fields (take (place + 1) start)
+one_more_begun fields now start place d x is within same =
+    let next : suc place ≡ place + 1 = omega arith in
+    ap (λ (some : List Field). slice_set some place (beginning (slice_index_or some place x) (slice_index_or start place d))) is
+    ∙ begun_at fields start place d x within (omega (arith, within, same))
+    ∙ ap (λ (many : ℕ). started fields (take many start)) next
+
+pub starts_length : (all : List Value) (fields : List Field) (start : List Value) → AreStarts all fields start → length fields ≡ length start
+starts_length all [] [] are = refl
+starts_length all [] (value ∷ more) are = absurd are
+starts_length all (field ∷ fields) [] are = absurd are
+starts_length all (field ∷ fields) (value ∷ more) are = ap suc (starts_length all fields more are.1)
 
 -- ---- what they start with
 

@@ -1,6 +1,7 @@
 //! A checked monitor.
 
-ghost use Rattle.std.specs.Prelude.{◌≡◌};
+ghost use Rattle.std.specs.Prelude.{◌≡◌, length};
+ghost use Rattle.lang_monitor.specs.Starts.{IsStart, started};
 
 use super::start::Origin;
 use base_list::Seq;
@@ -102,7 +103,7 @@ impl Model for Monitor {
 }
 
 impl Monitor {
-    ghost use Rattle.lang_monitor.specs.MonitorParts.{IsMonitor, parts};
+    ghost use Rattle.lang_monitor.specs.MonitorParts.{IsMonitor, opened_with, parts};
 
     /// The monitor of these parts. It takes no memory.
     pub fn of(
@@ -166,5 +167,38 @@ impl Monitor {
         ensures rule { IsMonitor self.now }
     {
         self.conditions.items()
+    }
+
+    /// The monitor as it is opened with these values, one for each field. It takes no memory.
+    pub fn opened(self, start: &[Value]) -> Monitor
+        requires { IsStart self.fields start.now }
+        ensures { result ≡ opened_with self start.now }
+    {
+        let Monitor {
+            name,
+            fields,
+            methods,
+            blocks,
+            conditions,
+        } = self;
+        let mut fields = fields.into_items();
+        begin_with(&mut fields, start);
+        Monitor {
+            name,
+            fields: Seq::of(fields),
+            methods,
+            blocks,
+            conditions,
+        }
+    }
+}
+
+/// Lets each field start with the value of its number.
+fn begin_with(fields: &mut [Field], start: &[Value])
+    requires { length fields.old ≡ length start.now }
+    ensures { fields.new ≡ started fields.old start.now }
+{
+    for i in 0..fields.len() {
+        fields[i].start = start[i];
     }
 }
