@@ -25,7 +25,7 @@ use Rattle.emit_code.specs.Orders.{IsTold}
 use Rattle.emit_code.specs.Laws.{Leads, IsDoneBy, Answers, AnswersAreReplies}
 use Rattle.emit_code.proofs.Lists.{came}
 use Rattle.emit_code.proofs.Views.{next_block, number_at, thread_before}
-use Rattle.emit_code.proofs.Stages.{first_of, count_of, refuses_in, IsAt, call_code, later_code, told_code, number_is, some_block, next_locked, follows_locked, called_next, again_next}
+use Rattle.emit_code.proofs.Parts.{first_of, count_of, refuses_in, IsAt, call_code, later_code, told_code, number_is, some_block, next_locked, follows_locked, called_next, again_next}
 use Rattle.emit_code.proofs.Placed.{IsSoundly, code_is, passed_at, start_position}
 use Rattle.emit_code.proofs.Running.{continues_so, BodyAt, body_at, sound_late}
 

@@ -26,9 +26,9 @@ use Rattle.machine_events.specs.declared.plan.CondKind.TheVariants as kinds
 use Rattle.machine_events.specs.declared.plan.Note.{Note}
 use Rattle.machine_events.specs.Plans.{condition_kind, has_note, has_broadcast, IsCondition}
 use Rattle.machine_events.specs.Laws.{HasCountingPlan}
-use Rattle.machine_events.specs.Configurations.{System, Phase, Standing, StandsAt, put, guard_of, block_condition, waited_condition}
-use Rattle.machine_events.specs.Configurations.Phase.{Idle, Entering, Waiting}
-use Rattle.machine_events.specs.Configurations.Phase.{Woken, Inside, Notifying}
+use Rattle.machine_events.specs.declared.event.Stage.{Stage}
+use Rattle.machine_events.specs.Configurations.{System, Standing, StandsAt, put, guard_of, block_condition, waited_condition}
+use Rattle.machine_events.specs.declared.event.Stage.TheVariants.{Idle, Entering, Waiting, Woken, Inside, Notifying}
 use Rattle.machine_events.specs.Events.{NoneWaits}
 use Rattle.machine_events.specs.Pending.{IsSystem, IsPending, announces, sees_to}
 use Rattle.machine_events.proofs.Facing.{guard_is, condition_is, own_guard}
@@ -43,8 +43,8 @@ use Rattle.emit_code.specs.Executions.Executes.{none_yet, one_more}
 use Rattle.emit_code.specs.Sleepers.{SleepersAreCounted}
 use Rattle.emit_code.specs.Orders.{notes_to_come, IsTestable, HasAllNotes, IsTold}
 use Rattle.emit_code.specs.Laws.{Leads, NobodyIsOwed, SomeoneSees, SleepersAreSeenTo}
-use Rattle.emit_code.proofs.Views.{next_block, place_by, place_at, phase_at, phase_of, stand, standings, stands, stands_from, goes_here, goes_unseen, goes_seen, all_woken, sleeps_from}
-use Rattle.emit_code.proofs.Stages.{refuses_in, IsAt, waited_numbered, call_code, told_code, block_is, condition_at, open_is_guard, some_block, inside_locked, never, follows_locked, called_next, called_any, telling_notes, again_next, again_notes, tells_phase}
+use Rattle.emit_code.proofs.Views.{next_block, place_by, place_at, stage_at, stage_of, stand, standings, stands, stands_from, goes_here, goes_unseen, goes_seen, all_woken, sleeps_from}
+use Rattle.emit_code.proofs.Parts.{refuses_in, IsAt, waited_numbered, call_code, told_code, block_is, condition_at, open_is_guard, some_block, inside_locked, never, follows_locked, called_next, called_any, telling_notes, again_next, again_notes, tells_stage}
 use Rattle.emit_code.proofs.Placed.{Loops, ArePlaced, IsSoundly, fits_there, faced_there, moment, code_is, passed_at, continues_tells, panic_tells, after_note, after_unlock, after_release, all_first, shape_of, start_position}
 use Rattle.emit_code.proofs.Counting.{asleep_counts, counted_late}
 use Rattle.emit_code.proofs.Running.{begins_here, continues_so, BodyAt, body_at, sound_late}
@@ -109,9 +109,9 @@ whole_covered : (system : System) (told : ℕ → List Op) (timed : ℕ → ℕ 
     → (thread : ℕ) (frame : Frame) (number : ℕ) (otherwise : List Note) (rest : List Op) (reply : Reply) (state locals : List Value) (ran : List Commit)
     → IsThread now.threads thread frame (At (Run number otherwise ∷ rest)) → (body : BodyAt system told timed now thread frame number otherwise rest reply state locals)
     → state ≡ (after (given body.call.inputs frame.locals) body.here.block.body now.state).state → continues reply otherwise rest ≡ told_code system told number body.left
-    → phase_at (At (continues reply otherwise rest)) ≡ Notifying (notes_to_come (continues reply otherwise rest))
+    → stage_at (At (continues reply otherwise rest)) ≡ Notifying (notes_to_come (continues reply otherwise rest))
     → IsCoveredLate system (moment state now.holder ran (goes now.threads thread (record { past = frame.past; locals = locals; answer = reply }) (At (continues reply otherwise rest))))
-whole_covered system told timed set order now sound covered thread frame number otherwise rest reply state locals ran at body state_is ops_are phase_is =
+whole_covered system told timed set order now sound covered thread frame number otherwise rest reply state locals ran at body state_is ops_are stage_is =
     let place = place_by system thread frame (Some number) in
     let ops = continues reply otherwise rest in
     let faced = body.here.faced in
@@ -134,7 +134,7 @@ whole_covered system told timed set order now sound covered thread frame number 
     subst (λ (one : ℕ). HasAllNotes system one (notes_to_come ops)) (sym (block_is system thread frame body.call number (suc body.left) body.at))
     (subst (HasAllNotes system number) (sym told_notes) (order.notes number)) in
     covered_as system state now.holder ran (goes now.threads thread new_frame (At ops)) (put (standings system now.threads) thread (place_at system thread new_frame (At ops)) (Notifying (notes_to_come ops)))
-    (goes_here system now.threads thread new_frame (At ops) (place_at system thread new_frame (At ops)) (Notifying (notes_to_come ops)) refl phase_is)
+    (goes_here system now.threads thread new_frame (At ops) (place_at system thread new_frame (At ops)) (Notifying (notes_to_come ops)) refl stage_is)
     (subst (λ (one : List Value). AllHold one system.plan.kept) (sym state_is) (kept_next system set thread place body.call body.here.block now.state steps))
     (run_late system set now.state state (standings system now.threads) thread place (place_at system thread new_frame (At ops)) body.call body.here.block (notes_to_come ops) steps
     (stands system now.threads thread frame (At (Run number otherwise ∷ rest)) at) covered.pending (well system told timed now set.is sound) all state_is)
@@ -144,16 +144,16 @@ overflow_covered : (system : System) (told : ℕ → List Op) (timed : ℕ → �
     → (thread : ℕ) (frame : Frame) (number : ℕ) (otherwise : List Note) (rest : List Op) (reply : Reply) (state locals : List Value) (ran : List Commit)
     → IsThread now.threads thread frame (At (Run number otherwise ∷ rest)) → (body : BodyAt system told timed now thread frame number otherwise rest reply state locals)
     → state ≡ now.state → continues reply otherwise rest ≡ telling_code otherwise
-    → phase_at (At (continues reply otherwise rest)) ≡ Notifying (notes_to_come (continues reply otherwise rest))
+    → stage_at (At (continues reply otherwise rest)) ≡ Notifying (notes_to_come (continues reply otherwise rest))
     → IsCoveredLate system (moment state now.holder ran (goes now.threads thread (record { past = frame.past; locals = locals; answer = reply }) (At (continues reply otherwise rest))))
-overflow_covered system told timed now sound covered thread frame number otherwise rest reply state locals ran at body state_is ops_are phase_is =
+overflow_covered system told timed now sound covered thread frame number otherwise rest reply state locals ran at body state_is ops_are stage_is =
     let place = place_by system thread frame (Some number) in
     let ops = continues reply otherwise rest in
     let new_frame : Frame = record { past = frame.past; locals = locals; answer = reply } in
     let noted : notes_to_come ops ≡ overflow_notes system.monitor number = ap notes_to_come ops_are ∙ telling_notes otherwise ∙ body.otherwise_is in
     let goes_to = place_at system thread new_frame (At ops) in
     covered_as system state now.holder ran (goes now.threads thread new_frame (At ops)) (put (standings system now.threads) thread goes_to (Notifying (notes_to_come ops)))
-    (goes_here system now.threads thread new_frame (At ops) goes_to (Notifying (notes_to_come ops)) refl phase_is)
+    (goes_here system now.threads thread new_frame (At ops) goes_to (Notifying (notes_to_come ops)) refl stage_is)
     (subst (λ (one : List Value). AllHold one system.plan.kept) (sym state_is) covered.invariant)
     (subst (λ (one : List Value). IsPending system one (put (standings system now.threads) thread goes_to (Notifying (notes_to_come ops)))) (sym state_is)
     (stays_late system now.state (standings system now.threads) thread place goes_to (notes_to_come ops) (stands system now.threads thread frame (At (Run number otherwise ∷ rest)) at) covered.pending
@@ -166,13 +166,13 @@ body_covered : (system : System) (told : ℕ → List Op) (timed : ℕ → ℕ �
 body_covered system told timed set order thread frame before next sound covered move =
     let body = body_at system told timed set.is thread frame before next sound move in
     let tells = continues_tells system told timed order before.holder thread frame.past body.call move.block body.left body.at body.held_by move.reply move.otherwise move.rest body.otherwise_is body.rest_is in
-    let phase = tells_phase (continues move.reply move.otherwise move.rest) (shape_of tells) in
+    let stage = tells_stage (continues move.reply move.otherwise move.rest) (shape_of tells) in
     subst (IsCoveredLate system) (sym move.becomes) (elim body.steps [
       | inl all ↦ whole_covered system told timed set order before sound covered thread frame move.block move.otherwise move.rest move.reply move.state move.locals before.ran move.at body
           (ap (λ (memory : Memory). memory.state) all.2)
-          (ap (λ (one : Reply). continues one move.otherwise move.rest) all.1 ∙ continues_so _ move.otherwise move.rest ∙ body.rest_is) phase
+          (ap (λ (one : Reply). continues one move.otherwise move.rest) all.1 ∙ continues_so _ move.otherwise move.rest ∙ body.rest_is) stage
       | inr over ↦ overflow_covered system told timed before sound covered thread frame move.block move.otherwise move.rest move.reply move.state move.locals before.ran move.at body
-          (ap (λ (memory : Memory). memory.state) over.2) (ap (λ (one : Reply). continues one move.otherwise move.rest) over.1) phase
+          (ap (λ (memory : Memory). memory.state) over.2) (ap (λ (one : Reply). continues one move.otherwise move.rest) over.1) stage
     ])
 
 -- ---- a note
@@ -251,7 +251,7 @@ released_pending system told timed now notes rest thread place is sound counted 
 refused_covered : (system : System) (told : ℕ → List Op) (timed : ℕ → ℕ → Bool) → HasCountingPlan system → (now : Moment) → IsSoundly system told timed now → IsCoveredLate system now
     → (thread : ℕ) (frame : Frame) (op : Op) (rest : List Op) (call : Call) (block left : ℕ) (ran : List Commit) → IsAt system thread frame.past call block left
     → is_open (program_with system told timed) now.state thread frame block ≡ false → IsThread now.threads thread frame (At (op ∷ rest))
-    → next_block (op ∷ rest) ≡ Some block → phase_at (At (op ∷ rest)) ≡ Inside
+    → next_block (op ∷ rest) ≡ Some block → stage_at (At (op ∷ rest)) ≡ Inside
     → IsCoveredLate system (moment now.state now.holder ran (goes now.threads thread (record { past = frame.past; locals = frame.locals; answer = replies.Refused }) (At (Unlock ∷ []))))
 refused_covered system told timed set now sound covered thread frame op rest call block left ran at closed_is there next_is inside_is =
     let place = place_by system thread frame (Some block) in
@@ -277,7 +277,7 @@ move_covered system told timed set order before next sound counted covered (call
     subst (IsCoveredLate system) (sym move.becomes)
     (covered_as system before.state before.holder before.ran (goes before.threads thread begun (At code)) (standings system before.threads)
     (goes_unseen system before.threads thread frame begun Outside (At code) move.outside (begins_here system told timed thread frame move.call set.is move.call_is replies.Unit)
-    (ap (λ (ops : List Op). phase_at (At ops)) (code_is system told timed thread frame.past move.call some.0 some.1)))
+    (ap (λ (ops : List Op). stage_at (At ops)) (code_is system told timed thread frame.past move.call some.0 some.1)))
     covered.invariant covered.pending)
 move_covered system told timed set order before next sound counted covered (takes thread frame move) =
     let enters = sound.placed thread frame (At (Lock ∷ move.rest)) move.at in
@@ -285,7 +285,7 @@ move_covered system told timed set order before next sound counted covered (take
     subst (IsCoveredLate system) (sym move.becomes)
     (covered_as system before.state (Some thread) before.ran (goes before.threads thread frame (At move.rest)) (put (standings system before.threads) thread place Inside)
     (goes_here system before.threads thread frame (At move.rest) place Inside refl
-    (ap (λ (ops : List Op). phase_at (At ops)) enters.rest_is ∙ inside_locked system told (refuses_in system timed thread frame.past enters.call enters.block) enters.block enters.left))
+    (ap (λ (ops : List Op). stage_at (At ops)) enters.rest_is ∙ inside_locked system told (refuses_in system timed thread frame.past enters.call enters.block) enters.block enters.left))
     covered.invariant (enters_late system before.state (standings system before.threads) thread place (stands system before.threads thread frame (At (Lock ∷ move.rest)) move.at) covered.pending))
 move_covered system told timed set order before next sound counted covered (passes thread frame move) =
     let passed = passed_at system told timed before sound.placed thread frame move.op move.block move.rest move.at move.tests in
@@ -293,7 +293,7 @@ move_covered system told timed set order before next sound counted covered (pass
     (covered_as system before.state before.holder before.ran (goes before.threads thread frame (At move.rest)) (standings system before.threads)
     (goes_unseen system before.threads thread frame frame (At (move.op ∷ move.rest)) (At move.rest) move.at
     (ap (λ (ops : List Op). place_by system thread frame (next_block ops)) passed.rest_is ∙ sym (ap (place_by system thread frame) passed.next_is))
-    (ap (λ (ops : List Op). phase_at (At ops)) passed.rest_is ∙ sym passed.inside_is))
+    (ap (λ (ops : List Op). stage_at (At ops)) passed.rest_is ∙ sym passed.inside_is))
     covered.invariant covered.pending)
 move_covered system told timed set order before next sound counted covered (falls_asleep thread frame move) =
     let loops = (sound.placed thread frame (At (WaitUntil move.block move.condition ∷ move.rest)) move.at).1 in
@@ -340,7 +340,7 @@ move_covered system told timed set order before next sound counted covered (pani
     subst (IsCoveredLate system) (sym move.becomes)
     (covered_as system before.state before.holder before.ran (goes before.threads thread frame (At ops)) (put (standings system before.threads) thread place (Notifying (notes_to_come ops)))
     (goes_here system before.threads thread frame (At ops) place (Notifying (notes_to_come ops))
-    (ap (place_by system thread frame) (again_next (program_with system told timed) thread frame move.block move.otherwise move.rest)) (tells_phase ops (shape_of tells))) covered.invariant
+    (ap (place_by system thread frame) (again_next (program_with system told timed) thread frame move.block move.otherwise move.rest)) (tells_stage ops (shape_of tells))) covered.invariant
     (stays_late system before.state (standings system before.threads) thread place place (notes_to_come ops) (stands system before.threads thread frame (At (Run move.block move.otherwise ∷ move.rest)) move.at) covered.pending
     (λ who others_place waits kind holds.
     ap (λ (some : List Note). has_note some (waited_condition system thread place)) noted
@@ -351,7 +351,7 @@ move_covered system told timed set order before next sound counted covered (noti
     let place = place_by system thread frame (next_block move.rest) in
     subst (IsCoveredLate system) (sym move.becomes)
     (covered_as system before.state before.holder before.ran (goes move.woken thread frame (At move.rest)) (put (standings system move.woken) thread place (Notifying (notes_to_come move.rest)))
-    (goes_here system move.woken thread frame (At move.rest) place (Notifying (notes_to_come move.rest)) refl (tells_phase move.rest (shape_of later))) covered.invariant
+    (goes_here system move.woken thread frame (At move.rest) place (Notifying (notes_to_come move.rest)) refl (tells_stage move.rest (shape_of later))) covered.invariant
     (noted_pending system told timed before move.note (notes_to_come move.rest) move.woken thread place set.is sound
     (All-head (IsTestable system.monitor) move.note (notes_to_come move.rest) tells.plain)
     (stands system before.threads thread frame (At (Notify move.note ∷ move.rest)) move.at) move.notified covered.pending))
@@ -359,7 +359,7 @@ move_covered system told timed set order before next sound counted covered (unlo
     let ends = after_unlock system told timed before.holder thread frame.past move.rest (sound.placed thread frame (At (Unlock ∷ move.rest)) move.at) in
     subst (IsCoveredLate system) (sym move.becomes)
     (covered_as system before.state None before.ran (goes before.threads thread frame (At move.rest)) (standings system before.threads)
-    (goes_unseen system before.threads thread frame frame (At (Unlock ∷ move.rest)) (At move.rest) move.at refl (tells_phase move.rest (shape_of ends.1))) covered.invariant covered.pending)
+    (goes_unseen system before.threads thread frame frame (At (Unlock ∷ move.rest)) (At move.rest) move.at refl (tells_stage move.rest (shape_of ends.1))) covered.invariant covered.pending)
 move_covered system told timed set order before next sound counted covered (releases thread frame move) =
     let tells = sound.placed thread frame (At (Release move.notes ∷ move.rest)) move.at in
     let ends = after_release system told timed before before.holder thread frame.past move.notes move.rest tells in
@@ -368,7 +368,7 @@ move_covered system told timed set order before next sound counted covered (rele
     subst (IsCoveredLate system) (sym move.becomes)
     (covered_as system before.state None before.ran (goes before.threads thread frame (At ops)) (put (standings system before.threads) thread place (Notifying (notes_to_come ops)))
     (goes_here system before.threads thread frame (At ops) place (Notifying (notes_to_come ops)) (ap (place_by system thread frame) (called_next (program_with system told timed) before move.notes move.rest))
-    (tells_phase ops (shape_of ends.1))) covered.invariant
+    (tells_stage ops (shape_of ends.1))) covered.invariant
     (released_pending system told timed before move.notes move.rest thread place set.is sound counted (all_first (IsTestable system.monitor) move.notes (notes_to_come move.rest) tells.plain)
     (stands system before.threads thread frame (At (Release move.notes ∷ move.rest)) move.at) covered.pending))
 move_covered system told timed set order before next sound counted covered (returns thread frame move) =
@@ -411,7 +411,7 @@ sees_by_broadcast (note ∷ notes) condition is = elim (or_cases (note.condition
   | inr later ↦ or_right (note.condition == condition) (has_note notes condition) (sees_by_broadcast notes condition later)
 ]
 
-announcing_sees : (system : System) (client : ℕ) (place : Place) (phase : Phase) (condition : ℕ) → announces phase condition ≡ true → sees_to system client place phase condition ≡ true
+announcing_sees : (system : System) (client : ℕ) (place : Place) (stage : Stage (List Note)) (condition : ℕ) → announces stage condition ≡ true → sees_to system client place stage condition ≡ true
 announcing_sees system client place Idle condition is = never is
 announcing_sees system client place Entering condition is = never is
 announcing_sees system client place (Waiting on) condition is = never is
@@ -420,7 +420,7 @@ announcing_sees system client place Inside condition is = never is
 announcing_sees system client place (Notifying notes) condition is = sees_by_broadcast notes condition is
 
 someone_at : (system : System) (told : ℕ → List Op) (timed : ℕ → ℕ → Bool) (now : Moment) → ArePlaced system told timed now → now.holder ≡ None → (other : ℕ) (frame : Frame) (position : Position) (condition : ℕ) (place : Place)
-    → IsThread now.threads other frame position → sees_to system other place (phase_at position) condition ≡ true → SomeoneSees now condition
+    → IsThread now.threads other frame position → sees_to system other place (stage_at position) condition ≡ true → SomeoneSees now condition
 someone_at system told timed now placed free other frame Outside condition place at is = never is
 someone_at system told timed now placed free other frame (At []) condition place at is = never is
 someone_at system told timed now placed free other frame (At (Lock ∷ rest)) condition place at is = never is
@@ -434,12 +434,12 @@ someone_at system told timed now placed free other frame (Asleep block on rest) 
 someone_at system told timed now placed free other frame (Notified block on rest) condition place at is =
     inl (other, frame, block, rest, subst (λ (one : ℕ). IsThread now.threads other frame (Notified block one rest)) (eqb-true on condition is) at)
 
-someone : (system : System) (told : ℕ → List Op) (timed : ℕ → ℕ → Bool) (now : Moment) → ArePlaced system told timed now → now.holder ≡ None → (condition other : ℕ) (place : Place) (phase : Phase)
-    → StandsAt (standings system now.threads) other place phase → sees_to system other place phase condition ≡ true → SomeoneSees now condition
-someone system told timed now placed free condition other place phase at is =
-    let found = stands_from system now.threads other place phase at in
+someone : (system : System) (told : ℕ → List Op) (timed : ℕ → ℕ → Bool) (now : Moment) → ArePlaced system told timed now → now.holder ≡ None → (condition other : ℕ) (place : Place) (stage : Stage (List Note))
+    → StandsAt (standings system now.threads) other place stage → sees_to system other place stage condition ≡ true → SomeoneSees now condition
+someone system told timed now placed free condition other place stage at is =
+    let found = stands_from system now.threads other place stage at in
     someone_at system told timed now placed free other found.0.frame found.0.position condition place found.1
-    (subst (λ (one : Phase). sees_to system other place one condition ≡ true) (sym (ap phase_of found.2)) is)
+    (subst (λ (one : Stage (List Note)). sees_to system other place one condition ≡ true) (sym (ap stage_of found.2)) is)
 
 by_kind : (system : System) (told : ℕ → List Op) (timed : ℕ → ℕ → Bool) → HasCountingPlan system → (now : Moment) → IsSoundly system told timed now → IsCoveredLate system now → now.holder ≡ None
     → (thread : ℕ) (frame : Frame) (block condition : ℕ) (rest : List Op) → IsThread now.threads thread frame (Asleep block condition rest)

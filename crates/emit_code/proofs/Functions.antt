@@ -25,7 +25,7 @@ use Rattle.emit_code.specs.Functions.{Turn, has_overflowed, returned_in, complet
 use Rattle.emit_code.specs.Functions.Turn.{Returned, Panicked}
 use Rattle.emit_code.specs.Orders.{is_free, is_locked, IsTold}
 use Rattle.emit_code.specs.Laws.{LateDataFollowTheRun}
-use Rattle.emit_code.proofs.Stages.{first_of, count_of, IsAt, later_code, passed_code, told_code, number_is, never}
+use Rattle.emit_code.proofs.Parts.{first_of, count_of, IsAt, later_code, passed_code, told_code, number_is, never}
 use Rattle.emit_code.proofs.Placed.{IsSoundly}
 use Rattle.emit_code.proofs.Running.{body_at, sound_late}
 

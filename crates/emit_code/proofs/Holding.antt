@@ -18,7 +18,7 @@ use Rattle.emit_code.specs.Executions.Executes.{none_yet, one_more}
 use Rattle.emit_code.specs.Orders.{IsTold}
 use Rattle.emit_code.specs.Laws.{Leads, HoldersAct, BodiesAreReady}
 use Rattle.emit_code.proofs.Lists.{set_here, set_other}
-use Rattle.emit_code.proofs.Stages.{refuses_in, call_code, passed_code, now_free, now_locked, never, locked_later, telling_locked, again_locked}
+use Rattle.emit_code.proofs.Parts.{refuses_in, call_code, passed_code, now_free, now_locked, never, locked_later, telling_locked, again_locked}
 use Rattle.emit_code.proofs.Placed.{ArePlaced, passed_at, after_unlock, after_release}
 use Rattle.emit_code.proofs.Running.{noter_stays, sound_late}
 

@@ -1,6 +1,6 @@
 pub mod Lists
 pub mod Views
-pub mod Stages
+pub mod Parts
 pub mod Placed
 pub mod Running
 pub mod Counting

@@ -34,7 +34,7 @@ use Rattle.machine_events.specs.Rising.{AreRising}
 use Rattle.machine_events.proofs.Places.{at_waiting, moves_to_waiting, truth_all}
 use Rattle.emit_code.specs.Code.{is_always, is_waited_on}
 use Rattle.emit_code.specs.LivePlans.{heard_notes, heard_kinds, live_plan}
-use Rattle.emit_code.proofs.Stages.{holds_always, not_false, waited_numbered}
+use Rattle.emit_code.proofs.Parts.{holds_always, not_false, waited_numbered}
 
 -- ---- notes that are left
 

@@ -21,7 +21,7 @@ use Rattle.machine_events.specs.Plans.{notes_at, condition_kind, has_note}
 use Rattle.machine_events.specs.Plans.{has_broadcast, IsCondition}
 use Rattle.machine_events.specs.Laws.{HasCountingPlan}
 use Rattle.machine_events.specs.Configurations.{System, Standing, StandsAt, put, guard_of, waited_condition}
-use Rattle.machine_events.specs.Configurations.Phase.{Waiting, Woken, Inside, Notifying}
+use Rattle.machine_events.specs.declared.event.Stage.TheVariants.{Waiting, Woken, Inside, Notifying}
 use Rattle.machine_events.specs.Events.{NoneWaits, wake_all, fires}
 use Rattle.machine_events.specs.Pending.{IsSystem, announces, IsPending}
 use Rattle.machine_events.proofs.Facing.{Faces, faces, condition_is, own_guard, IsWaiter, waiter_guard}
@@ -31,7 +31,7 @@ use Rattle.machine_events.proofs.Covered.{MayStep, condition_truth_is, signal_gu
 use Rattle.machine_events.proofs.Seeing.{one_most}
 use Rattle.machine_events.proofs.Sound.{target_apart}
 use Rattle.emit_code.specs.Orders.{IsTestable, HasAllNotes}
-use Rattle.emit_code.proofs.Stages.{never}
+use Rattle.emit_code.proofs.Parts.{never}
 
 -- who waits is at a place that there is, has a call left, and waits on the condition of its block
 pub record WaitWell (system : System) (standings : List Standing) : Type 0 where
@@ -128,17 +128,17 @@ pub run_late : (system : System) → HasCountingPlan system → (state next : Li
     → next ≡ (after (inputs_at call place) block.body state).state → IsPending system next (put standings client goes (Notifying told))
 run_late system set state next standings client place goes call block told steps at pending well all is = record {
   broadcasts = λ who others_place condition stands kind holds. elim (came standings client goes (Notifying told) who others_place (Waiting condition) within stands) [
-    | inl mover ↦ absurd (cc mover.where_phase)
+    | inl mover ↦ absurd (cc mover.where_stage)
     | inr other ↦
         let theirs = theirs_at system set.is standings well who others_place condition other.stood in
         elim (cases_Bool (guard_of system state who others_place)) [
           | inl was ↦
-              someone_stays standings client place goes Inside (Notifying told) (λ one ones_place phase. announces phase condition) at (λ is. never is) (pending.broadcasts who others_place condition other.stood kind was)
+              someone_stays standings client place goes Inside (Notifying told) (λ one ones_place stage. announces stage condition) at (λ is. never is) (pending.broadcasts who others_place condition other.stood kind was)
           | inr was ↦
               let noted = makes_true condition theirs.which (inputs_at theirs.call others_place) theirs.waits.which_is
               (sym (waiter_guard system state who others_place condition theirs.call theirs.block theirs.which theirs.waits) ∙ was)
               (sym (waiter_guard system next who others_place condition theirs.call theirs.block theirs.which theirs.waits) ∙ holds) in
-              mover_stands standings client place goes Inside (Notifying told) (λ one ones_place phase. announces phase condition) at
+              mover_stands standings client place goes Inside (Notifying told) (λ one ones_place stage. announces stage condition) at
               (all.broadcast condition (all_broadcasts condition (notes_at system.plan number) (set.lawful.broadcasts condition kind number) noted))
         ]
   ];
@@ -206,7 +206,7 @@ releases_late system state standings client place notes next at keeps pending =
     pending_put system state standings client place place (Notifying notes) (Notifying next) at pending
     (λ condition is. absurd (cc is)) (λ condition is. absurd (cc is))
     (λ who others_place condition waits kind holds is.
-    mover_stands standings client place place (Notifying notes) (Notifying next) (λ one ones_place phase. announces phase condition) at ((keeps who others_place condition waits (inl holds)).1 is))
+    mover_stands standings client place place (Notifying notes) (Notifying next) (λ one ones_place stage. announces stage condition) at ((keeps who others_place condition waits (inl holds)).1 is))
     (λ who others_place condition waits kind holds.
     let both = keeps who others_place condition waits (inr holds) in
     record { told = both.1; many = one_most (has_note notes condition) (has_note next condition) both.0 })

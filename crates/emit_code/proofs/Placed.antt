@@ -16,7 +16,7 @@ use Rattle.machine_implicit.specs.Runs.{IsRun}
 use Rattle.machine_implicit.proofs.Fitting.{run_fits}
 use Rattle.machine_events.specs.declared.plan.Note.{Note}
 use Rattle.machine_events.specs.Configurations.{System, block_condition}
-use Rattle.machine_events.specs.Configurations.Phase.{Inside}
+use Rattle.machine_events.specs.declared.event.Stage.TheVariants.{Inside}
 use Rattle.machine_events.specs.Pending.{IsSystem}
 use Rattle.emit_code.specs.Code.{Op, is_waited_on, is_guarded, signal_on, overflow_notes, telling_code, test_code, blocks_code}
 use Rattle.emit_code.specs.Code.Op.{Lock, WaitUntil, ElseRefuse, Run, Notify, Unlock, Release}
@@ -26,9 +26,9 @@ use Rattle.emit_code.specs.Executions.Position.{Outside, At, Asleep, Notified}
 use Rattle.emit_code.specs.Executions.IsMove.{calls, takes, passes, falls_asleep, wakes, retakes, refuses, abandons, runs_body, panics, notifies, unlocks, releases, returns}
 use Rattle.emit_code.specs.Orders.{notes_to_come, IsTestable, IsTold}
 use Rattle.emit_code.proofs.Lists.{came}
-use Rattle.emit_code.proofs.Views.{next_block, place_by, place_at, phase_at, place_there, situation_at, thread_before}
-use Rattle.emit_code.proofs.Stages.{first_of, count_of, tries_in, refuses_in, IsAt, call_code, later_code, locked_code, passed_code, told_code, Faced, faced_at, numbered_is, open_untested, tested_waited, some_block, tries_first, tries_later, tries_is, next_at, end_at, next_locked}
-use Rattle.emit_code.proofs.Stages.{now_free, now_locked, from_lock, never, locked_later, follows_locked, called_lock, called_free, called_all, telling_locked, telling_notes, telling_lock, then_lock, again_locked, again_notes}
+use Rattle.emit_code.proofs.Views.{next_block, place_by, place_at, stage_at, place_there, situation_at, thread_before}
+use Rattle.emit_code.proofs.Parts.{first_of, count_of, tries_in, refuses_in, IsAt, call_code, later_code, locked_code, passed_code, told_code, Faced, faced_at, numbered_is, open_untested, tested_waited, some_block, tries_first, tries_later, tries_is, next_at, end_at, next_locked}
+use Rattle.emit_code.proofs.Parts.{now_free, now_locked, from_lock, never, locked_later, follows_locked, called_lock, called_free, called_all, telling_locked, telling_notes, telling_lock, then_lock, again_locked, again_notes}
 
 -- ---- where threads are
 
@@ -176,7 +176,7 @@ free_apart now state holder thread free other differs = inl (λ is. none-some ot
 nothing_changes : (now : Moment) (thread : ℕ) (other : ℕ) → (other ≡ thread → ⊥) → Stays now now.state now.holder other
 nothing_changes now thread other differs = inr (refl, refl)
 
--- ---- the stages of the code
+-- ---- the parts of the code
 
 -- blocks begin with a lock
 entered : (system : System) (told : ℕ → List Op) (timed : ℕ → ℕ → Bool) (thread past : ℕ) (call : Call) (block left : ℕ) (rest : List Op) → IsAt system thread past call block left
@@ -272,7 +272,7 @@ pub record Passed (system : System) (told : ℕ → List Op) (timed : ℕ → �
   pub at : IsAt system thread frame.past call block (suc left)
   pub rest_is : rest ≡ passed_code system told block left
   pub next_is : next_block (op ∷ rest) ≡ Some block
-  pub inside_is : phase_at (At (op ∷ rest)) ≡ Inside
+  pub inside_is : stage_at (At (op ∷ rest)) ≡ Inside
 
 pub passed_at : (system : System) (told : ℕ → List Op) (timed : ℕ → ℕ → Bool) (now : Moment) → ArePlaced system told timed now → (thread : ℕ) (frame : Frame) (op : Op) (block : ℕ) (rest : List Op)
     → IsThread now.threads thread frame (At (op ∷ rest)) → tested_block op ≡ Some block → Passed system told timed now thread frame op block rest

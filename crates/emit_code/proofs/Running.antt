@@ -33,7 +33,7 @@ use Rattle.emit_code.specs.Orders.{IsTold}
 use Rattle.emit_code.specs.Laws.{Leads, Ran}
 use Rattle.emit_code.proofs.Lists.{set_other}
 use Rattle.emit_code.proofs.Views.{next_block, number_at, place_by, place_at, place_of, place_there, places_go, same_places, standings, situation_at, all_woken_places, start_places}
-use Rattle.emit_code.proofs.Stages.{first_of, count_of, tries_in, refuses_in, IsAt, call_code, later_code, told_code, Faced, number_is, block_is, tries_is, open_is_guard, some_block, next_locked, follows_locked, called_next, telling_next, again_next}
+use Rattle.emit_code.proofs.Parts.{first_of, count_of, tries_in, refuses_in, IsAt, call_code, later_code, told_code, Faced, number_is, block_is, tries_is, open_is_guard, some_block, next_locked, follows_locked, called_next, telling_next, again_next}
 use Rattle.emit_code.proofs.Placed.{IsSoundly, faced_there, moment, code_is, passed_at, move_placed, start_placed}
 
 -- ---- places that stay

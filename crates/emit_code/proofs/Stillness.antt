@@ -32,7 +32,7 @@ use Rattle.emit_code.specs.Orders.{notes_to_come, IsTold}
 use Rattle.emit_code.specs.Laws.{Leads, IsAtEnd, IsAtRest, QuietIsAtRest, StillIsTheEnd, StillEndsTheRun}
 use Rattle.emit_code.proofs.Lists.{option_some}
 use Rattle.emit_code.proofs.Views.{place_by, place_at, place_of, standings, situation_at, stands, stands_from, sleeps_from}
-use Rattle.emit_code.proofs.Stages.{tries_in, never, tries_is, open_is_guard}
+use Rattle.emit_code.proofs.Parts.{tries_in, never, tries_is, open_is_guard}
 use Rattle.emit_code.proofs.Placed.{IsSoundly, faced_there}
 use Rattle.emit_code.proofs.Running.{sound_late}
 use Rattle.emit_code.proofs.Covering.{late_seen_to}
@@ -293,7 +293,7 @@ still_ends system told timed last set order run still now ran =
     subst (Ends system.monitor system.clients) same (λ thread can.
     let found = is_some_and (slice_get (map place_of (standings system last.threads)) thread) (λ place. may_step system.monitor system.clients last.state thread place ≡ true) can in
     let standing = option_some place_of (slice_get (standings system last.threads) thread) found.0 (sym (slice_get-map place_of (standings system last.threads) thread) ∙ found.1) in
-    let there = stands_from system last.threads thread standing.0.place standing.0.phase standing.1 in
+    let there = stands_from system last.threads thread standing.0.place standing.0.stage standing.1 in
     let place_is : place_at system thread there.0.frame there.0.position ≡ found.0 = ap place_of there.2 ∙ standing.2 in
     cannot_step system told timed last sound still thread there.0.frame there.0.position there.1
     (still_late system told timed last set order run still thread there.0.frame there.0.position there.1)

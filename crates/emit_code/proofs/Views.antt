@@ -11,8 +11,10 @@ use Rattle.machine_implicit.specs.declared.place.Place.{Place}
 use Rattle.machine_implicit.specs.Scripted.{calls_of}
 use Rattle.machine_implicit.specs.Places.{first_place}
 use Rattle.machine_implicit.specs.Runs.{Situation, first_places}
-use Rattle.machine_events.specs.Configurations.{System, Phase, Standing, StandsAt, put}
-use Rattle.machine_events.specs.Configurations.Phase.{Waiting, Woken, Inside, Notifying}
+use Rattle.machine_events.specs.declared.plan.Note.{Note}
+use Rattle.machine_events.specs.declared.event.Stage.{Stage}
+use Rattle.machine_events.specs.Configurations.{System, Standing, StandsAt, put}
+use Rattle.machine_events.specs.declared.event.Stage.TheVariants.{Waiting, Woken, Inside, Notifying}
 use Rattle.machine_events.specs.Events.{waking, wake_all}
 use Rattle.emit_code.specs.Code.{Op}
 use Rattle.emit_code.specs.Code.Op.{Lock, WaitUntil, ElseRefuse, Run, Notify, Unlock, Release}
@@ -48,26 +50,26 @@ place_at system thread frame (At rest) = place_by system thread frame (next_bloc
 place_at system thread frame (Asleep block condition rest) = place_by system thread frame (Some block)
 place_at system thread frame (Notified block condition rest) = place_by system thread frame (Some block)
 
--- ---- the phase: with notes to make it notifies, with the mutex or without; one that is between two blocks has none to make
+-- ---- the stage: with notes to make it notifies, with the mutex or without; one that is between two blocks has none to make
 
-abbrev pub phase_at : Position → Phase
-phase_at Outside = Notifying []
-phase_at (At []) = Notifying []
-phase_at (At (Lock ∷ rest)) = Notifying []
-phase_at (At (WaitUntil block condition ∷ rest)) = Inside
-phase_at (At (ElseRefuse block ∷ rest)) = Inside
-phase_at (At (Run block otherwise ∷ rest)) = Inside
-phase_at (At (Notify note ∷ rest)) = Notifying (note ∷ notes_to_come rest)
-phase_at (At (Unlock ∷ rest)) = Notifying (notes_to_come rest)
-phase_at (At (Release notes ∷ rest)) = Notifying (notes ++ notes_to_come rest)
-phase_at (Asleep block condition rest) = Waiting condition
-phase_at (Notified block condition rest) = Woken condition
+abbrev pub stage_at : Position → Stage (List Note)
+stage_at Outside = Notifying []
+stage_at (At []) = Notifying []
+stage_at (At (Lock ∷ rest)) = Notifying []
+stage_at (At (WaitUntil block condition ∷ rest)) = Inside
+stage_at (At (ElseRefuse block ∷ rest)) = Inside
+stage_at (At (Run block otherwise ∷ rest)) = Inside
+stage_at (At (Notify note ∷ rest)) = Notifying (note ∷ notes_to_come rest)
+stage_at (At (Unlock ∷ rest)) = Notifying (notes_to_come rest)
+stage_at (At (Release notes ∷ rest)) = Notifying (notes ++ notes_to_come rest)
+stage_at (Asleep block condition rest) = Waiting condition
+stage_at (Notified block condition rest) = Woken condition
 
-abbrev pub stand : Place → Phase → Standing
-stand place phase = record { place = place; phase = phase }
+abbrev pub stand : Place → Stage (List Note) → Standing
+stand place stage = record { place = place; stage = stage }
 
 abbrev pub standing_of : System → ℕ → Thread → Standing
-standing_of system thread one = stand (place_at system thread one.frame one.position) (phase_at one.position)
+standing_of system thread one = stand (place_at system thread one.frame one.position) (stage_at one.position)
 
 -- of all threads, the first of them with this number
 abbrev pub standings_from : System → ℕ → List Thread → List Standing
@@ -80,8 +82,8 @@ standings system threads = standings_from system 0 threads
 abbrev pub place_of : Standing → Place
 place_of standing = standing.place
 
-abbrev pub phase_of : Standing → Phase
-phase_of standing = standing.phase
+abbrev pub stage_of : Standing → Stage (List Note)
+stage_of standing = standing.stage
 
 -- the situation of the implicit monitor
 abbrev pub situation_at : System → Moment → Situation
@@ -117,33 +119,33 @@ seen_get : (system : System) (threads : List Thread) (k : ℕ) → slice_get (st
 seen_get system threads k = views_get system 0 threads k ∙ ap (λ (who : ℕ). option_map (standing_of system who) (slice_get threads k)) (from_zero k)
 
 pub stands : (system : System) (threads : List Thread) (thread : ℕ) (frame : Frame) (position : Position) → IsThread threads thread frame position
-    → StandsAt (standings system threads) thread (place_at system thread frame position) (phase_at position)
+    → StandsAt (standings system threads) thread (place_at system thread frame position) (stage_at position)
 stands system threads thread frame position at = seen_get system threads thread ∙ ap (option_map (standing_of system thread)) at
 
-pub stands_from : (system : System) (threads : List Thread) (thread : ℕ) (place : Place) (phase : Phase) → StandsAt (standings system threads) thread place phase
-    → (one : Thread) × (slice_get threads thread ≡ Some one) × (standing_of system thread one ≡ stand place phase)
-stands_from system threads thread place phase at = option_some (standing_of system thread) (slice_get threads thread) (stand place phase) (sym (seen_get system threads thread) ∙ at)
+pub stands_from : (system : System) (threads : List Thread) (thread : ℕ) (place : Place) (stage : Stage (List Note)) → StandsAt (standings system threads) thread place stage
+    → (one : Thread) × (slice_get threads thread ≡ Some one) × (standing_of system thread one ≡ stand place stage)
+stands_from system threads thread place stage at = option_some (standing_of system thread) (slice_get threads thread) (stand place stage) (sym (seen_get system threads thread) ∙ at)
 
 pub goes_seen : (system : System) (threads : List Thread) (thread : ℕ) (frame : Frame) (position : Position)
-    → standings system (goes threads thread frame position) ≡ put (standings system threads) thread (place_at system thread frame position) (phase_at position)
+    → standings system (goes threads thread frame position) ≡ put (standings system threads) thread (place_at system thread frame position) (stage_at position)
 goes_seen system threads thread frame position =
     let one : Thread = record { frame = frame; position = position } in
     views_set system 0 threads thread one ∙ ap (λ (who : ℕ). slice_set (standings system threads) thread (standing_of system who one)) (from_zero thread)
 
 -- it goes to a position at the same place
-pub goes_here : (system : System) (threads : List Thread) (thread : ℕ) (frame : Frame) (position : Position) (place : Place) (phase : Phase)
-    → place_at system thread frame position ≡ place → phase_at position ≡ phase
-    → standings system (goes threads thread frame position) ≡ put (standings system threads) thread place phase
-goes_here system threads thread frame position place phase place_is phase_is =
-    goes_seen system threads thread frame position ∙ (λ i. put (standings system threads) thread (place_is i) (phase_is i))
+pub goes_here : (system : System) (threads : List Thread) (thread : ℕ) (frame : Frame) (position : Position) (place : Place) (stage : Stage (List Note))
+    → place_at system thread frame position ≡ place → stage_at position ≡ stage
+    → standings system (goes threads thread frame position) ≡ put (standings system threads) thread place stage
+goes_here system threads thread frame position place stage place_is stage_is =
+    goes_seen system threads thread frame position ∙ (λ i. put (standings system threads) thread (place_is i) (stage_is i))
 
 -- nothing is seen of it
 pub goes_unseen : (system : System) (threads : List Thread) (thread : ℕ) (frame new_frame : Frame) (position new_position : Position) → IsThread threads thread frame position
-    → place_at system thread new_frame new_position ≡ place_at system thread frame position → phase_at new_position ≡ phase_at position
+    → place_at system thread new_frame new_position ≡ place_at system thread frame position → stage_at new_position ≡ stage_at position
     → standings system (goes threads thread new_frame new_position) ≡ standings system threads
-goes_unseen system threads thread frame new_frame position new_position at place_is phase_is =
-    goes_here system threads thread new_frame new_position (place_at system thread frame position) (phase_at position) place_is phase_is
-    ∙ set_self (standings system threads) thread (stand (place_at system thread frame position) (phase_at position)) (stands system threads thread frame position at)
+goes_unseen system threads thread frame new_frame position new_position at place_is stage_is =
+    goes_here system threads thread new_frame new_position (place_at system thread frame position) (stage_at position) place_is stage_is
+    ∙ set_self (standings system threads) thread (stand (place_at system thread frame position) (stage_at position)) (stands system threads thread frame position at)
 
 -- the places stay
 pub same_places : (system : System) (threads : List Thread) (thread : ℕ) (frame new_frame : Frame) (position new_position : Position) → IsThread threads thread frame position
@@ -151,8 +153,8 @@ pub same_places : (system : System) (threads : List Thread) (thread : ℕ) (fram
     → map place_of (standings system (goes threads thread new_frame new_position)) ≡ map place_of (standings system threads)
 same_places system threads thread frame new_frame position new_position at place_is =
     let old = place_at system thread frame position in
-    ap (map place_of) (goes_here system threads thread new_frame new_position old (phase_at new_position) place_is refl)
-    ∙ map-set place_of (standings system threads) thread (stand old (phase_at new_position))
+    ap (map place_of) (goes_here system threads thread new_frame new_position old (stage_at new_position) place_is refl)
+    ∙ map-set place_of (standings system threads) thread (stand old (stage_at new_position))
     ∙ set_self (map place_of (standings system threads)) thread old
     (slice_get-map place_of (standings system threads) thread ∙ ap (option_map place_of) (stands system threads thread frame position at))
 
@@ -164,7 +166,7 @@ place_there system threads thread frame position at =
 pub places_go : (system : System) (threads : List Thread) (thread : ℕ) (frame : Frame) (position : Position) (place : Place) → place_at system thread frame position ≡ place
     → map place_of (standings system (goes threads thread frame position)) ≡ slice_set (map place_of (standings system threads)) thread place
 places_go system threads thread frame position place is =
-    ap (map place_of) (goes_here system threads thread frame position place (phase_at position) is refl) ∙ map-set place_of (standings system threads) thread (stand place (phase_at position))
+    ap (map place_of) (goes_here system threads thread frame position place (stage_at position) is refl) ∙ map-set place_of (standings system threads) thread (stand place (stage_at position))
 
 -- ---- all that sleep on a condition are woken
 
@@ -175,7 +177,7 @@ by_test system thread condition other block frame rest true = refl
 by_test system thread condition other block frame rest false = refl
 
 one_woken : (system : System) (thread condition : ℕ) (frame : Frame) (position : Position)
-    → standing_of system thread (record { frame = frame; position = woken_position condition position }) ≡ waking condition (stand (place_at system thread frame position) (phase_at position))
+    → standing_of system thread (record { frame = frame; position = woken_position condition position }) ≡ waking condition (stand (place_at system thread frame position) (stage_at position))
 one_woken system thread condition frame Outside = refl
 one_woken system thread condition frame (At []) = refl
 one_woken system thread condition frame (At (Lock ∷ rest)) = refl
@@ -237,7 +239,7 @@ thread_before condition threads thread frame position at =
 
 -- ---- who waits in the machine sleeps in the code
 
-asleep_position : (position : Position) (condition : ℕ) → phase_at position ≡ Waiting condition → (block : ℕ) × (rest : List Op) × (position ≡ Asleep block condition rest)
+asleep_position : (position : Position) (condition : ℕ) → stage_at position ≡ Waiting condition → (block : ℕ) × (rest : List Op) × (position ≡ Asleep block condition rest)
 asleep_position Outside condition is = absurd (cc is)
 asleep_position (At []) condition is = absurd (cc is)
 asleep_position (At (Lock ∷ rest)) condition is = absurd (cc is)
@@ -261,7 +263,7 @@ pub record Sleeps (system : System) (threads : List Thread) (thread : ℕ) (plac
 pub sleeps_from : (system : System) (threads : List Thread) (thread : ℕ) (place : Place) (condition : ℕ) → StandsAt (standings system threads) thread place (Waiting condition) → Sleeps system threads thread place condition
 sleeps_from system threads thread place condition at =
     let found = stands_from system threads thread place (Waiting condition) at in
-    let position = asleep_position found.0.position condition (ap phase_of found.2) in
+    let position = asleep_position found.0.position condition (ap stage_of found.2) in
     record {
       frame = found.0.frame;
       block = position.0;

@@ -26,7 +26,7 @@ use Rattle.emit_code.proofs.Lists.{came}
 use Rattle.emit_code.proofs.Live.{live_fits, live_is_lawful_by_counting}
 use Rattle.emit_code.proofs.Order.{late_is_told}
 use Rattle.emit_code.proofs.Running.{body_at, sound_late}
-use Rattle.emit_code.proofs.Stages.{first_of, count_of}
+use Rattle.emit_code.proofs.Parts.{first_of, count_of}
 use Rattle.emit_code.proofs.Views.{thread_before}
 use Rattle.emit_fits.specs.Laws.{MethodFits, PassIn64, StartsIn64}
 use Rattle.emit_fits.proofs.FittingMoves.{never_told}

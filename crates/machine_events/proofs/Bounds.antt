@@ -14,9 +14,9 @@ use Rattle.machine_events.specs.declared.plan.Note.{Note}
 use Rattle.machine_events.specs.declared.event.Event.TheVariants as events
 use Rattle.machine_events.specs.declared.log.Entry.{Entry}
 use Rattle.machine_events.specs.declared.log.Outcome.TheVariants as outcomes
-use Rattle.machine_events.specs.Configurations.{System, Phase, Standing, Configuration, StandsAt, put, idle_at, situation_of, waited_condition}
-use Rattle.machine_events.specs.Configurations.Phase.{Idle, Entering, Waiting}
-use Rattle.machine_events.specs.Configurations.Phase.{Woken, Inside, Notifying}
+use Rattle.machine_events.specs.declared.event.Stage.{Stage}
+use Rattle.machine_events.specs.Configurations.{System, Standing, Configuration, StandsAt, put, idle_at, situation_of, waited_condition}
+use Rattle.machine_events.specs.declared.event.Stage.TheVariants.{Idle, Entering, Waiting, Woken, Inside, Notifying}
 use Rattle.machine_events.specs.Events.{waking, wake_all, Begins, Locks, Waits, Wakes as WakesBy}
 use Rattle.machine_events.specs.Pending.{IsSystem, IsSound, has_begun}
 use Rattle.machine_events.proofs.Legal.{section_keeps, sound_lasts}
@@ -37,43 +37,43 @@ use Rattle.machine_events.proofs.Standings.{put_same, stands_within, unwoken_sta
 
 -- ---- what is counted of each client
 
-abbrev woken_in : Phase → ℕ
+abbrev woken_in : Stage (List Note) → ℕ
 woken_in (Woken condition) = 1
-woken_in phase = 0
+woken_in stage = 0
 
 -- it has begun the block that it is at
-abbrev begun_in : Phase → ℕ
+abbrev begun_in : Stage (List Note) → ℕ
 begun_in Idle = 0
 begun_in (Notifying notes) = 0
-begun_in phase = 1
+begun_in stage = 1
 
 abbrev woken_of : Standing → ℕ
-woken_of standing = woken_in standing.phase
+woken_of standing = woken_in standing.stage
 
 abbrev begun_of : Standing → ℕ
-begun_of standing = begun_in standing.phase
+begun_of standing = begun_in standing.stage
 
 -- a sum over the standings after one is put elsewhere
 moved_sum : (f : Standing → ℕ) (standings : List Standing) (client : ℕ) (place new_place : Place)
-    (phase new_phase : Phase) → StandsAt standings client place phase
-    → sum_by f (put standings client new_place new_phase)
-    + f (record { place = place; phase = phase })
-    ≡ sum_by f standings + f (record { place = new_place; phase = new_phase })
-moved_sum f standings client place new_place phase new_phase at =
-    let here : Standing = record { place = place; phase = phase } in
-    let there : Standing = record { place = new_place; phase = new_phase } in
-    ap (λ (one : Standing). sum_by f (put standings client new_place new_phase) + f one) (sym (get_or_from_slice_get standings client here here at))
-    ∙ sum_by-set f standings client there here (stands_within standings client place phase at)
+    (stage new_stage : Stage (List Note)) → StandsAt standings client place stage
+    → sum_by f (put standings client new_place new_stage)
+    + f (record { place = place; stage = stage })
+    ≡ sum_by f standings + f (record { place = new_place; stage = new_stage })
+moved_sum f standings client place new_place stage new_stage at =
+    let here : Standing = record { place = place; stage = stage } in
+    let there : Standing = record { place = new_place; stage = new_stage } in
+    ap (λ (one : Standing). sum_by f (put standings client new_place new_stage) + f one) (sym (get_or_from_slice_get standings client here here at))
+    ∙ sum_by-set f standings client there here (stands_within standings client place stage at)
 
 -- where one counts nothing, and each at most one, the sum is below the length
 sum_below : (standings : List Standing) (client : ℕ) (place : Place)
     → StandsAt standings client place Idle → sum_by woken_of standings + 1 ≤ length standings
-sum_below [] client place at = absurd (none-some (record { place = place; phase = Idle }) at)
+sum_below [] client place at = absurd (none-some (record { place = place; stage = Idle }) at)
 sum_below (first ∷ standings) zero place at =
-    let none : woken_of first ≡ 0 = ap woken_of (same_Some first (record { place = place; phase = Idle }) at) in
+    let none : woken_of first ≡ 0 = ap woken_of (same_Some first (record { place = place; stage = Idle }) at) in
     omega (arith, sum_by-cons woken_of first standings, none, each_one standings)
   where
-    at_most : (phase : Phase) → woken_in phase ≤ 1
+    at_most : (stage : Stage (List Note)) → woken_in stage ≤ 1
     at_most Idle = omega arith
     at_most Entering = omega arith
     at_most (Waiting condition) = omega arith
@@ -83,10 +83,10 @@ sum_below (first ∷ standings) zero place at =
 
     each_one : (some : List Standing) → sum_by woken_of some ≤ length some
     each_one [] = omega arith
-    each_one (one ∷ some) = omega (arith, sum_by-cons woken_of one some, at_most one.phase, each_one some)
-sum_below (first ∷ standings) (suc client) place at = omega (arith, sum_by-cons woken_of first standings, at_most first.phase, sum_below standings client place at)
+    each_one (one ∷ some) = omega (arith, sum_by-cons woken_of one some, at_most one.stage, each_one some)
+sum_below (first ∷ standings) (suc client) place at = omega (arith, sum_by-cons woken_of first standings, at_most first.stage, sum_below standings client place at)
   where
-    at_most : (phase : Phase) → woken_in phase ≤ 1
+    at_most : (stage : Stage (List Note)) → woken_in stage ≤ 1
     at_most Idle = omega arith
     at_most Entering = omega arith
     at_most (Waiting condition) = omega arith
@@ -112,18 +112,18 @@ begun_left monitor (client ∷ clients) (one ∷ standings) same few =
 begun_few : (system : System) (c : Configuration) → IsSound system c
     → sum_by begun_of c.standings ≤ left_of system.monitor system.clients
     (map (λ standing. standing.place) c.standings)
-begun_few system c sound = begun_left system.monitor system.clients c.standings sound.one_each (λ client one at. by client one.place one.phase at)
+begun_few system c sound = begun_left system.monitor system.clients c.standings sound.one_each (λ client one at. by client one.place one.stage at)
   where
-    one_left : (client : ℕ) (place : Place) (phase : Phase)
-        → StandsAt c.standings client place phase → has_begun phase ≡ true
+    one_left : (client : ℕ) (place : Place) (stage : Stage (List Note))
+        → StandsAt c.standings client place stage → has_begun stage ≡ true
         → 1 ≤ left_in system.monitor (calls_of system.clients client) place
-    one_left client place phase at begins =
-        let call = at_index (calls_of system.clients client) place.past (sound.begun client place phase at begins) in
-        let here : FitsPlaceAt system.monitor place (Some call.0) = subst (FitsPlaceAt system.monitor place) call.1 (sound.places client place phase at) in
+    one_left client place stage at begins =
+        let call = at_index (calls_of system.clients client) place.past (sound.begun client place stage at begins) in
+        let here : FitsPlaceAt system.monitor place (Some call.0) = subst (FitsPlaceAt system.monitor place) call.1 (sound.places client place stage at) in
         some_left system.monitor (calls_of system.clients client) place call.0 call.1 here.0
 
-    by : (client : ℕ) (place : Place) (phase : Phase) → StandsAt c.standings client place phase
-        → begun_in phase ≤ left_in system.monitor (calls_of system.clients client) place
+    by : (client : ℕ) (place : Place) (stage : Stage (List Note)) → StandsAt c.standings client place stage
+        → begun_in stage ≤ left_in system.monitor (calls_of system.clients client) place
     by client place Idle at = omega arith
     by client place Entering at = one_left client place Entering at refl
     by client place (Waiting on) at = one_left client place (Waiting on) at refl
@@ -202,17 +202,17 @@ waits_sums system client place before next event =
 -- ---- notes
 
 waking_begun : (condition : ℕ) (one : Standing) → begun_of (waking condition one) ≡ begun_of one
-waking_begun condition one = by one.place one.phase
+waking_begun condition one = by one.place one.stage
   where
     test : (place : Place) (on : ℕ) (b : Bool)
-        → begun_of (cond b (record { place = place; phase = Woken condition })
-        (record { place = place; phase = Waiting on })) ≡ 1
+        → begun_of (cond b (record { place = place; stage = Woken condition })
+        (record { place = place; stage = Waiting on })) ≡ 1
     test place on true = refl
     test place on false = refl
 
-    by : (place : Place) (phase : Phase)
-        → begun_of (waking condition (record { place = place; phase = phase }))
-        ≡ begun_of (record { place = place; phase = phase })
+    by : (place : Place) (stage : Stage (List Note))
+        → begun_of (waking condition (record { place = place; stage = stage }))
+        ≡ begun_of (record { place = place; stage = stage })
     by place Idle = refl
     by place Entering = refl
     by place (Waiting on) = test place on (on == condition)

@@ -190,10 +190,10 @@ measure_of system set condition which is kind = elim (set.lawful.signals conditi
 pub someone_sees : (system : System) (state : List Value) (standings : List Standing)
     (condition : ℕ) (measure : Measure) → IsEnough system state standings condition measure
     → condition_truth system.monitor state condition ≡ true
-    → SomeStands standings (λ other others_place phase. sees_to system other others_place phase
+    → SomeStands standings (λ other others_place stage. sees_to system other others_place stage
     condition)
 someone_sees system state standings condition measure enough holds =
-    let one = some_counted (λ client standing. sees_to system client standing.place standing.phase condition) standings 0
+    let one = some_counted (λ client standing. sees_to system client standing.place standing.stage condition) standings 0
     (chain 1 (slack system.monitor measure state condition) (seeing system condition standings) (some_may system.monitor measure state condition holds) enough.many) in
     let same : one.1 ≡ one.0 = omega (arith, one.4) in
-    (one.0, one.2.place, one.2.phase, one.3, ap (λ (who : ℕ). sees_to system who one.2.place one.2.phase condition) (sym same) ∙ one.5)
+    (one.0, one.2.place, one.2.stage, one.3, ap (λ (who : ℕ). sees_to system who one.2.place one.2.stage condition) (sym same) ∙ one.5)

@@ -22,9 +22,9 @@ use Rattle.machine_events.specs.Plans.{has_broadcast, IsCondition}
 use Rattle.machine_events.specs.Running.{MayRun}
 use Rattle.machine_events.specs.Counts.{Measure, LeavesCounted, below_zero, slack, is_free, one_if}
 use Rattle.machine_events.specs.Laws.{HasCountingPlan}
-use Rattle.machine_events.specs.Configurations.{System, Phase, Standing, StandsAt, put, guard_of, waited_condition}
-use Rattle.machine_events.specs.Configurations.Phase.{Idle, Entering, Waiting}
-use Rattle.machine_events.specs.Configurations.Phase.{Woken, Inside, Notifying}
+use Rattle.machine_events.specs.declared.event.Stage.{Stage}
+use Rattle.machine_events.specs.Configurations.{System, Standing, StandsAt, put, guard_of, waited_condition}
+use Rattle.machine_events.specs.declared.event.Stage.TheVariants.{Idle, Entering, Waiting, Woken, Inside, Notifying}
 use Rattle.machine_events.specs.Events.{wake_all, waits_on}
 use Rattle.machine_events.specs.Pending.{announces, sees_to, SomeStands, seeing, IsEnough, AreAnnounced, AreCounted, IsPending}
 use Rattle.machine_events.proofs.Standings.{stands_within, came, mover_stands, someone_stays, woken_from, unwoken_stays}
@@ -88,31 +88,31 @@ pub not_both : (b : Bool) → b ≡ true → b ≡ false → ⊥
 not_both b held fails = true≢false (sym held ∙ fails)
 
 pub announced_put : (system : System) (state : List Value) (standings : List Standing) (client : ℕ)
-    (place new_place : Place) (phase new_phase : Phase) → StandsAt standings client place phase
+    (place new_place : Place) (stage new_stage : Stage (List Note)) → StandsAt standings client place stage
     → AreAnnounced system state standings
-    → ((condition : ℕ) → new_phase ≡ Waiting condition
+    → ((condition : ℕ) → new_stage ≡ Waiting condition
     → guard_of system state client new_place ≡ false)
     → ((who : ℕ) (others_place : Place) (condition : ℕ)
     → StandsAt standings who others_place (Waiting condition)
     → condition_kind system.plan condition ≡ Some kinds.Broadcast
     → guard_of system state who others_place ≡ true
-    → announces phase condition ≡ true → SomeStands (put standings client new_place new_phase)
-    (λ other others_place others_phase. announces others_phase condition))
-    → AreAnnounced system state (put standings client new_place new_phase)
-announced_put system state standings client place new_place phase new_phase at announced fresh kept who others_place condition stands kind holds = elim (came standings client new_place new_phase who others_place (Waiting condition) (stands_within standings client place phase at) stands) [
+    → announces stage condition ≡ true → SomeStands (put standings client new_place new_stage)
+    (λ other others_place others_stage. announces others_stage condition))
+    → AreAnnounced system state (put standings client new_place new_stage)
+announced_put system state standings client place new_place stage new_stage at announced fresh kept who others_place condition stands kind holds = elim (came standings client new_place new_stage who others_place (Waiting condition) (stands_within standings client place stage at) stands) [
   | inl mover ↦
       absurd (not_both (guard_of system state client new_place)
       (sym (ap (λ (one : ℕ). guard_of system state one others_place) mover.who ∙ ap (guard_of system state client) mover.where_place) ∙ holds)
-      (fresh condition (sym mover.where_phase)))
-  | inr other ↦ someone_stays standings client place new_place phase new_phase (λ one others_place others_phase. announces others_phase condition) at
+      (fresh condition (sym mover.where_stage)))
+  | inr other ↦ someone_stays standings client place new_place stage new_stage (λ one others_place others_stage. announces others_stage condition) at
       (kept who others_place condition other.stood kind holds) (announced who others_place condition other.stood kind holds)
 ]
 
 -- the mover announces what it announced, and sees to as much
-pub record SeesAsMuch (system : System) (client : ℕ) (place new_place : Place) (phase new_phase : Phase) (condition : ℕ) : Type 0 where
-  pub told : announces phase condition ≡ true → announces new_phase condition ≡ true
-  pub many : one_if (sees_to system client place phase condition)
-      ≤ one_if (sees_to system client new_place new_phase condition)
+pub record SeesAsMuch (system : System) (client : ℕ) (place new_place : Place) (stage new_stage : Stage (List Note)) (condition : ℕ) : Type 0 where
+  pub told : announces stage condition ≡ true → announces new_stage condition ≡ true
+  pub many : one_if (sees_to system client place stage condition)
+      ≤ one_if (sees_to system client new_place new_stage condition)
 
 -- where a guard is false no client may pass
 pub none_may : (system : System) (state : List Value) (standings : List Standing) (condition : ℕ)
@@ -129,84 +129,84 @@ none_may system state standings condition measure fails = record {
 
 -- how many see to a condition after one is put elsewhere
 pub seeing_put : (system : System) (condition : ℕ) (standings : List Standing) (client : ℕ)
-    (place new_place : Place) (phase new_phase : Phase) → StandsAt standings client place phase
-    → seeing system condition (put standings client new_place new_phase)
-    + one_if (sees_to system client place phase condition)
+    (place new_place : Place) (stage new_stage : Stage (List Note)) → StandsAt standings client place stage
+    → seeing system condition (put standings client new_place new_stage)
+    + one_if (sees_to system client place stage condition)
     ≡ seeing system condition standings
-    + one_if (sees_to system client new_place new_phase condition)
-seeing_put system condition standings client place new_place phase new_phase at =
-    many_put (λ one standing. sees_to system one standing.place standing.phase condition) standings 0 client client (record { place = place; phase = phase }) (record { place = new_place; phase = new_phase }) (omega arith) at
+    + one_if (sees_to system client new_place new_stage condition)
+seeing_put system condition standings client place new_place stage new_stage at =
+    many_put (λ one standing. sees_to system one standing.place standing.stage condition) standings 0 client client (record { place = place; stage = stage }) (record { place = new_place; stage = new_stage }) (omega arith) at
 
 pub counted_put : (system : System) (state : List Value) (standings : List Standing) (client : ℕ)
-    (place new_place : Place) (phase new_phase : Phase) → StandsAt standings client place phase
+    (place new_place : Place) (stage new_stage : Stage (List Note)) → StandsAt standings client place stage
     → AreCounted system state standings
-    → ((condition : ℕ) → new_phase ≡ Waiting condition
+    → ((condition : ℕ) → new_stage ≡ Waiting condition
     → condition_kind system.plan condition ≡ Some kinds.Signal
     → condition_truth system.monitor state condition ≡ false)
     → ((who : ℕ) (others_place : Place) (condition : ℕ)
     → StandsAt standings who others_place (Waiting condition)
     → condition_kind system.plan condition ≡ Some kinds.Signal
     → condition_truth system.monitor state condition ≡ true
-    → SeesAsMuch system client place new_place phase new_phase condition)
-    → AreCounted system state (put standings client new_place new_phase)
-counted_put system state standings client place new_place phase new_phase at counted fresh kept who others_place condition stands kind measure counts = elim (cases_Bool (condition_truth system.monitor state condition)) [
-  | inr fails ↦ inr (none_may system state (put standings client new_place new_phase) condition measure fails)
-  | inl holds ↦ elim (came standings client new_place new_phase who others_place (Waiting condition) (stands_within standings client place phase at) stands) [
-    | inl mover ↦ absurd (not_both (condition_truth system.monitor state condition) holds (fresh condition (sym mover.where_phase) kind))
+    → SeesAsMuch system client place new_place stage new_stage condition)
+    → AreCounted system state (put standings client new_place new_stage)
+counted_put system state standings client place new_place stage new_stage at counted fresh kept who others_place condition stands kind measure counts = elim (cases_Bool (condition_truth system.monitor state condition)) [
+  | inr fails ↦ inr (none_may system state (put standings client new_place new_stage) condition measure fails)
+  | inl holds ↦ elim (came standings client new_place new_stage who others_place (Waiting condition) (stands_within standings client place stage at) stands) [
+    | inl mover ↦ absurd (not_both (condition_truth system.monitor state condition) holds (fresh condition (sym mover.where_stage) kind))
     | inr other ↦
         let much = kept who others_place condition other.stood kind holds in
         elim (counted who others_place condition other.stood kind measure counts) [
           | inl told ↦
-              inl (someone_stays standings client place new_place phase new_phase (λ one ones_place ones_phase. announces ones_phase condition) at
-              (λ is. mover_stands standings client place new_place phase new_phase (λ one ones_place ones_phase. announces ones_phase condition) at (much.told is)) told)
+              inl (someone_stays standings client place new_place stage new_stage (λ one ones_place ones_stage. announces ones_stage condition) at
+              (λ is. mover_stands standings client place new_place stage new_stage (λ one ones_place ones_stage. announces ones_stage condition) at (much.told is)) told)
           | inr enough ↦
               inr (record {
                 bounded = enough.bounded;
-                many = still_enough (slack system.monitor measure state condition) (seeing system condition standings) (seeing system condition (put standings client new_place new_phase))
-                    (one_if (sees_to system client place phase condition)) (one_if (sees_to system client new_place new_phase condition))
-                    enough.many much.many (seeing_put system condition standings client place new_place phase new_phase at);
+                many = still_enough (slack system.monitor measure state condition) (seeing system condition standings) (seeing system condition (put standings client new_place new_stage))
+                    (one_if (sees_to system client place stage condition)) (one_if (sees_to system client new_place new_stage condition))
+                    enough.many much.many (seeing_put system condition standings client place new_place stage new_stage at);
               })
         ]
   ]
 ]
 
 pub pending_put : (system : System) (state : List Value) (standings : List Standing) (client : ℕ)
-    (place new_place : Place) (phase new_phase : Phase) → StandsAt standings client place phase
+    (place new_place : Place) (stage new_stage : Stage (List Note)) → StandsAt standings client place stage
     → IsPending system state standings
-    → ((condition : ℕ) → new_phase ≡ Waiting condition
+    → ((condition : ℕ) → new_stage ≡ Waiting condition
     → guard_of system state client new_place ≡ false)
-    → ((condition : ℕ) → new_phase ≡ Waiting condition
+    → ((condition : ℕ) → new_stage ≡ Waiting condition
     → condition_kind system.plan condition ≡ Some kinds.Signal
     → condition_truth system.monitor state condition ≡ false)
     → ((who : ℕ) (others_place : Place) (condition : ℕ)
     → StandsAt standings who others_place (Waiting condition)
     → condition_kind system.plan condition ≡ Some kinds.Broadcast
     → guard_of system state who others_place ≡ true
-    → announces phase condition ≡ true → SomeStands (put standings client new_place new_phase)
-    (λ other others_place others_phase. announces others_phase condition))
+    → announces stage condition ≡ true → SomeStands (put standings client new_place new_stage)
+    (λ other others_place others_stage. announces others_stage condition))
     → ((who : ℕ) (others_place : Place) (condition : ℕ)
     → StandsAt standings who others_place (Waiting condition)
     → condition_kind system.plan condition ≡ Some kinds.Signal
     → condition_truth system.monitor state condition ≡ true
-    → SeesAsMuch system client place new_place phase new_phase condition)
-    → IsPending system state (put standings client new_place new_phase)
-pending_put system state standings client place new_place phase new_phase at pending fresh fresh_signal kept kept_signal = record {
-  broadcasts = announced_put system state standings client place new_place phase new_phase at pending.broadcasts fresh kept;
-  signals = counted_put system state standings client place new_place phase new_phase at pending.signals fresh_signal kept_signal;
+    → SeesAsMuch system client place new_place stage new_stage condition)
+    → IsPending system state (put standings client new_place new_stage)
+pending_put system state standings client place new_place stage new_stage at pending fresh fresh_signal kept kept_signal = record {
+  broadcasts = announced_put system state standings client place new_place stage new_stage at pending.broadcasts fresh kept;
+  signals = counted_put system state standings client place new_place stage new_stage at pending.signals fresh_signal kept_signal;
 }
 
 never : {P : Type 0} → false ≡ true → P
 never is = absurd (true≢false (sym is))
 
 -- a mover that announced nothing, and saw to nothing that it does not see to now
-pub sees_still : (system : System) (client : ℕ) (place new_place : Place) (phase new_phase : Phase)
-    (condition : ℕ) → announces phase condition ≡ false
-    → (sees_to system client place phase condition ≡ true
-    → sees_to system client new_place new_phase condition ≡ true)
-    → SeesAsMuch system client place new_place phase new_phase condition
-sees_still system client place new_place phase new_phase condition silent follows = record {
-  told = λ is. absurd (not_both (announces phase condition) is silent);
-  many = one_most (sees_to system client place phase condition) (sees_to system client new_place new_phase condition) follows;
+pub sees_still : (system : System) (client : ℕ) (place new_place : Place) (stage new_stage : Stage (List Note))
+    (condition : ℕ) → announces stage condition ≡ false
+    → (sees_to system client place stage condition ≡ true
+    → sees_to system client new_place new_stage condition ≡ true)
+    → SeesAsMuch system client place new_place stage new_stage condition
+sees_still system client place new_place stage new_stage condition silent follows = record {
+  told = λ is. absurd (not_both (announces stage condition) is silent);
+  many = one_most (sees_to system client place stage condition) (sees_to system client new_place new_stage condition) follows;
 }
 
 pub begins_pending : (system : System) (state : List Value) (standings : List Standing) (client : ℕ)
@@ -293,8 +293,8 @@ wakes_pending system state standings client place woken at pending =
 -- ---- all that wait on a condition are woken
 
 -- who announces a condition does not wait
-announcing_waits_not : (woken : ℕ) (phase : Phase) (condition : ℕ)
-    → announces phase condition ≡ true → waits_on woken phase ≡ false
+announcing_waits_not : (woken : ℕ) (stage : Stage (List Note)) (condition : ℕ)
+    → announces stage condition ≡ true → waits_on woken stage ≡ false
 announcing_waits_not woken Idle condition is = never is
 announcing_waits_not woken Entering condition is = never is
 announcing_waits_not woken (Waiting other) condition is = never is
@@ -304,15 +304,15 @@ announcing_waits_not woken (Notifying notes) condition is = refl
 
 -- who is woken saw to nothing, and all others stay
 abbrev sees_in : System → ℕ → ℕ → Standing → Bool
-sees_in system condition client standing = sees_to system client standing.place standing.phase condition
+sees_in system condition client standing = sees_to system client standing.place standing.stage condition
 
-abbrev woken_if : Bool → ℕ → Place → Phase → Standing
-woken_if is woken place phase = cond is (record { place = place; phase = Woken woken }) (record { place = place; phase = phase })
+abbrev woken_if : Bool → ℕ → Place → Stage (List Note) → Standing
+woken_if is woken place stage = cond is (record { place = place; stage = Woken woken }) (record { place = place; stage = stage })
 
 sees_when_woken : (system : System) (client : ℕ) (place : Place) (woken condition : ℕ)
-    (phase : Phase) (is : Bool) → waits_on woken phase ≡ is
-    → one_if (sees_in system condition client (record { place = place; phase = phase }))
-    ≤ one_if (sees_in system condition client (woken_if is woken place phase))
+    (stage : Stage (List Note)) (is : Bool) → waits_on woken stage ≡ is
+    → one_if (sees_in system condition client (record { place = place; stage = stage }))
+    ≤ one_if (sees_in system condition client (woken_if is woken place stage))
 sees_when_woken system client place woken condition Idle is waits = at_least_none (one_if (sees_in system condition client (woken_if is woken place Idle)))
 sees_when_woken system client place woken condition Entering is waits = at_least_none (one_if (sees_in system condition client (woken_if is woken place Entering)))
 sees_when_woken system client place woken condition (Waiting other) is waits = at_least_none (one_if (sees_in system condition client (woken_if is woken place (Waiting other))))
@@ -332,8 +332,8 @@ waited standings woken client place condition at = elim (woken_from standings wo
 ]
 
 told_when_woken : (standings : List Standing) (woken condition : ℕ)
-    → SomeStands standings (λ other others_place phase. announces phase condition)
-    → SomeStands (wake_all woken standings) (λ other others_place phase. announces phase condition)
+    → SomeStands standings (λ other others_place stage. announces stage condition)
+    → SomeStands (wake_all woken standings) (λ other others_place stage. announces stage condition)
 told_when_woken standings woken condition some =
     (some.0, some.1, some.2, unwoken_stays standings woken some.0 some.1 some.2 some.3 (announcing_waits_not woken some.2 condition some.4), some.4)
 
@@ -351,7 +351,7 @@ wakes_all_pending system state standings woken pending = record {
               bounded = enough.bounded;
               many = chain (slack system.monitor measure state condition) (seeing system condition standings) (seeing system condition (wake_all woken standings)) enough.many
                   (many_woken (sees_in system condition) woken
-                  (λ one standing. sees_when_woken system one standing.place woken condition standing.phase (waits_on woken standing.phase) refl) standings 0);
+                  (λ one standing. sees_when_woken system one standing.place woken condition standing.stage (waits_on woken standing.stage) refl) standings 0);
             })
       ];
 }
@@ -374,7 +374,7 @@ takes_announced system state standings client place note more at announced broad
           let both = and_parts (note.condition == condition) note.all here in
           let same = sym (eqb-true note.condition condition both.0) in
           absurd (broadcast who others_place (subst (λ (one : ℕ). StandsAt standings who others_place (Waiting one)) same waits) (subst (λ (one : ℕ). condition_kind system.plan one ≡ Some kinds.Broadcast) same kind) holds both.1)
-      | inr later ↦ mover_stands standings client place place (Notifying (note ∷ more)) (Notifying more) (λ other others_place phase. announces phase condition) at later
+      | inr later ↦ mover_stands standings client place place (Notifying (note ∷ more)) (Notifying more) (λ other others_place stage. announces stage condition) at later
     ])
 
 pub takes_counted : (system : System) (state : List Value) (standings : List Standing) (client : ℕ)
@@ -431,14 +431,14 @@ signals_counted system state standings client place note more target target_plac
     let woken = put standings target target_place (Woken note.condition) in
     let later = put woken client place (Notifying more) in
     elim (came woken client place (Notifying more) who others_place (Waiting condition) (stands_within woken client place (Notifying (note ∷ more)) still) stands) [
-      | inl mover ↦ absurd (cc mover.where_phase)
+      | inl mover ↦ absurd (cc mover.where_stage)
       | inr other ↦ elim (came standings target target_place (Woken note.condition) who others_place (Waiting condition) (stands_within standings target target_place (Waiting note.condition) waits) other.stood) [
-        | inl mover ↦ absurd (cc mover.where_phase)
+        | inl mover ↦ absurd (cc mover.where_stage)
         | inr stood ↦ elim (counted who others_place condition stood.stood kind measure counts) [
           | inl told ↦
-              inl (someone_stays woken client place place (Notifying (note ∷ more)) (Notifying more) (λ some somes_place phase. announces phase condition) still
-              (λ is. mover_stands woken client place place (Notifying (note ∷ more)) (Notifying more) (λ some somes_place phase. announces phase condition) still (told_later note more condition one is))
-              (someone_stays standings target target_place target_place (Waiting note.condition) (Woken note.condition) (λ some somes_place phase. announces phase condition) waits
+              inl (someone_stays woken client place place (Notifying (note ∷ more)) (Notifying more) (λ some somes_place stage. announces stage condition) still
+              (λ is. mover_stands woken client place place (Notifying (note ∷ more)) (Notifying more) (λ some somes_place stage. announces stage condition) still (told_later note more condition one is))
+              (someone_stays standings target target_place target_place (Waiting note.condition) (Woken note.condition) (λ some somes_place stage. announces stage condition) waits
               (λ is. never is) told))
           | inr enough ↦
               inr (record {
@@ -474,11 +474,11 @@ pub runs_counted : (system : System) (state next : List Value) (standings : List
     → AreCounted system state standings
     → AreCounted system next (put standings client goes (Notifying told))
 runs_counted system state next standings client place goes call block told steps at noted cast is counted who others_place condition stands kind measure counts = elim (came standings client goes (Notifying told) who others_place (Waiting condition) (stands_within standings client place Inside at) stands) [
-  | inl mover ↦ absurd (cc mover.where_phase)
+  | inl mover ↦ absurd (cc mover.where_stage)
   | inr other ↦ elim (counted who others_place condition other.stood kind measure counts) [
-    | inl announced ↦ inl (someone_stays standings client place goes Inside (Notifying told) (λ one ones_place phase. announces phase condition) at (λ same. never same) announced)
+    | inl announced ↦ inl (someone_stays standings client place goes Inside (Notifying told) (λ one ones_place stage. announces stage condition) at (λ same. never same) announced)
     | inr enough ↦ elim (counts number block steps.run.is) [
-      | inl broadcast ↦ inl (mover_stands standings client place goes Inside (Notifying told) (λ one ones_place phase. announces phase condition) at (cast condition broadcast))
+      | inl broadcast ↦ inl (mover_stands standings client place goes Inside (Notifying told) (λ one ones_place stage. announces stage condition) at (cast condition broadcast))
       | inr each ↦ inr (leaves_enough enough (each (inputs_at call place) state steps.run enough.bounded))
     ]
   ]

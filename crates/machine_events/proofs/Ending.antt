@@ -22,9 +22,10 @@ use Rattle.machine_events.specs.declared.plan.CondKind.TheVariants as kinds
 use Rattle.machine_events.specs.declared.event.Event.{Event}
 use Rattle.machine_events.specs.declared.event.Event.TheVariants as events
 use Rattle.machine_events.specs.Plans.{condition_kind}
-use Rattle.machine_events.specs.Configurations.{System, Phase, Standing, Configuration, StandsAt, put, initial, situation_of, guard_of}
-use Rattle.machine_events.specs.Configurations.Phase.{Idle, Entering, Waiting}
-use Rattle.machine_events.specs.Configurations.Phase.{Woken, Inside, Notifying}
+use Rattle.machine_events.specs.declared.plan.Note.{Note}
+use Rattle.machine_events.specs.declared.event.Stage.{Stage}
+use Rattle.machine_events.specs.Configurations.{System, Standing, Configuration, StandsAt, put, initial, situation_of, guard_of}
+use Rattle.machine_events.specs.declared.event.Stage.TheVariants.{Idle, Entering, Waiting, Woken, Inside, Notifying}
 use Rattle.machine_events.specs.Events.{wake_all, fires, NoneWaits, IsEvent, Happen, AreEvents}
 use Rattle.machine_events.specs.Pending.{holds_lock, IsSound, announces, sees_to, SomeStands, IsCovered, WakePending, is_spurious, IsStuck}
 use Rattle.machine_events.proofs.Facing.{Faces, faces, at_index, IsWaiter, waiter_in, waiter_guard}
@@ -37,13 +38,13 @@ use Rattle.machine_events.proofs.Notified.{event_keeps_covered, start_is_covered
 -- ---- a wake-up is pending
 
 free_holds_not : (system : System) (c : Configuration) → IsSound system c → c.owner ≡ None
-    → (client : ℕ) (place : Place) (phase : Phase) → StandsAt c.standings client place phase
-    → holds_lock phase ≡ true → ⊥
-free_holds_not system c sound free client place phase at holds = none-some client (sym free ∙ sound.lock.only client place phase at holds)
+    → (client : ℕ) (place : Place) (stage : Stage (List Note)) → StandsAt c.standings client place stage
+    → holds_lock stage ≡ true → ⊥
+free_holds_not system c sound free client place stage at holds = none-some client (sym free ∙ sound.lock.only client place stage at holds)
 
 nobody_announces : (system : System) (c : Configuration) → IsSound system c → c.owner ≡ None
     → (condition : ℕ) → SomeStands c.standings
-    (λ other others_place phase. announces phase condition) → ⊥
+    (λ other others_place stage. announces stage condition) → ⊥
 nobody_announces system c sound free condition (other, others_place, Notifying notes, at, is) = free_holds_not system c sound free other others_place (Notifying notes) at refl
 nobody_announces system c sound free condition (other, others_place, Idle, at, is) = true≢false (sym is)
 nobody_announces system c sound free condition (other, others_place, Entering, at, is) = true≢false (sym is)
@@ -53,7 +54,7 @@ nobody_announces system c sound free condition (other, others_place, Inside, at,
 
 one_woken : (system : System) (c : Configuration) → IsSound system c → c.owner ≡ None
     → (condition : ℕ) → SomeStands c.standings
-    (λ other others_place phase. sees_to system other others_place phase condition)
+    (λ other others_place stage. sees_to system other others_place stage condition)
     → (other : ℕ) × (others_place : Place)
     × StandsAt c.standings other others_place (Woken condition)
 one_woken system c sound free condition (other, others_place, Idle, at, is) = absurd (true≢false (sym is))
@@ -158,33 +159,33 @@ some_refusal system state client place call block faced fails tries =
     })
 
 is_waiting : (condition : ℕ) (standing : Standing)
-    → ((place : Place) × (standing ≡ record { place = place; phase = Waiting condition }))
-    ⊎ ((place : Place) → standing ≡ record { place = place; phase = Waiting condition } → ⊥)
-is_waiting condition standing = by standing.phase standing.place (λ i. standing)
+    → ((place : Place) × (standing ≡ record { place = place; stage = Waiting condition }))
+    ⊎ ((place : Place) → standing ≡ record { place = place; stage = Waiting condition } → ⊥)
+is_waiting condition standing = by standing.stage standing.place (λ i. standing)
   where
-    other : (phase : Phase) → (phase ≡ Waiting condition → ⊥)
-        → standing ≡ record { place = standing.place; phase = phase } → (place : Place)
-        → standing ≡ record { place = place; phase = Waiting condition } → ⊥
-    other phase differs is place same = differs (ap (λ (s : Standing). s.phase) (sym is ∙ same))
+    other : (stage : Stage (List Note)) → (stage ≡ Waiting condition → ⊥)
+        → standing ≡ record { place = standing.place; stage = stage } → (place : Place)
+        → standing ≡ record { place = place; stage = Waiting condition } → ⊥
+    other stage differs is place same = differs (ap (λ (s : Standing). s.stage) (sym is ∙ same))
 
-    by : (phase : Phase) (place : Place) → standing ≡ record { place = place; phase = phase }
-        → ((place : Place) × (standing ≡ record { place = place; phase = Waiting condition }))
-        ⊎ ((place : Place) → standing ≡ record { place = place; phase = Waiting condition } → ⊥)
-    by Idle place is = inr (λ at same. cc (ap (λ (s : Standing). s.phase) (sym is ∙ same)))
-    by Entering place is = inr (λ at same. cc (ap (λ (s : Standing). s.phase) (sym is ∙ same)))
+    by : (stage : Stage (List Note)) (place : Place) → standing ≡ record { place = place; stage = stage }
+        → ((place : Place) × (standing ≡ record { place = place; stage = Waiting condition }))
+        ⊎ ((place : Place) → standing ≡ record { place = place; stage = Waiting condition } → ⊥)
+    by Idle place is = inr (λ at same. cc (ap (λ (s : Standing). s.stage) (sym is ∙ same)))
+    by Entering place is = inr (λ at same. cc (ap (λ (s : Standing). s.stage) (sym is ∙ same)))
     by (Waiting on) place is = elim (cases_eq on condition) [
-      | inl same ↦ inl (place, is ∙ ap (λ (one : ℕ). record { place = place; phase = Waiting one }) same)
-      | inr differs ↦ inr (λ at same. differs (cc (ap (λ (s : Standing). s.phase) (sym is ∙ same))))
+      | inl same ↦ inl (place, is ∙ ap (λ (one : ℕ). record { place = place; stage = Waiting one }) same)
+      | inr differs ↦ inr (λ at same. differs (cc (ap (λ (s : Standing). s.stage) (sym is ∙ same))))
     ]
-    by (Woken on) place is = inr (λ at same. cc (ap (λ (s : Standing). s.phase) (sym is ∙ same)))
-    by Inside place is = inr (λ at same. cc (ap (λ (s : Standing). s.phase) (sym is ∙ same)))
-    by (Notifying notes) place is = inr (λ at same. cc (ap (λ (s : Standing). s.phase) (sym is ∙ same)))
+    by (Woken on) place is = inr (λ at same. cc (ap (λ (s : Standing). s.stage) (sym is ∙ same)))
+    by Inside place is = inr (λ at same. cc (ap (λ (s : Standing). s.stage) (sym is ∙ same)))
+    by (Notifying notes) place is = inr (λ at same. cc (ap (λ (s : Standing). s.stage) (sym is ∙ same)))
 
 -- some client waits on a condition, or none does
 pub some_waits : (standings : List Standing) (condition : ℕ)
     → ((client : ℕ) × (place : Place) × StandsAt standings client place (Waiting condition))
     ⊎ NoneWaits standings condition
-some_waits [] condition = inr (λ client place at. none-some (record { place = place; phase = Waiting condition }) at)
+some_waits [] condition = inr (λ client place at. none-some (record { place = place; stage = Waiting condition }) at)
 some_waits (first ∷ more) condition = elim (is_waiting condition first) [
   | inl here ↦ inl (zero, here.0, ap Some here.1)
   | inr differs ↦ elim (some_waits more condition) [
@@ -194,15 +195,15 @@ some_waits (first ∷ more) condition = elim (is_waiting condition first) [
 ]
   where
     none_here : (first : Standing) (more : List Standing) (condition : ℕ)
-        → ((place : Place) → first ≡ record { place = place; phase = Waiting condition } → ⊥)
+        → ((place : Place) → first ≡ record { place = place; stage = Waiting condition } → ⊥)
         → NoneWaits more condition → NoneWaits (first ∷ more) condition
-    none_here first more condition differs none zero place at = differs place (same_Some first (record { place = place; phase = Waiting condition }) at)
+    none_here first more condition differs none zero place at = differs place (same_Some first (record { place = place; stage = Waiting condition }) at)
     none_here first more condition differs none (suc client) place at = none client place at
 
 holder_moves : (system : System) (c : Configuration) → IsMonitor system.monitor
     → FitsScripts system.monitor system.clients → IsSound system c → IsStuck system c
-    → (client : ℕ) (place : Place) (phase : Phase) → StandsAt c.standings client place phase
-    → holds_lock phase ≡ true → ⊥
+    → (client : ℕ) (place : Place) (stage : Stage (List Note)) → StandsAt c.standings client place stage
+    → holds_lock stage ≡ true → ⊥
 holder_moves system c rule scripts sound stuck client place Inside at holds =
     let faced = faces system client place rule scripts (sound.places client place Inside at) (sound.begun client place Inside at refl) in
     elim (cases_Bool (guard_of system c.state client place)) [
@@ -305,7 +306,7 @@ has_call system state client place may = by (call_at system.clients client place
 
 no_one_acts : (system : System) (c : Configuration) → HasCountingPlan system → IsSound system c
     → IsCovered system c → IsStuck system c → c.owner ≡ None
-    → (client : ℕ) (place : Place) (phase : Phase) → StandsAt c.standings client place phase
+    → (client : ℕ) (place : Place) (stage : Stage (List Note)) → StandsAt c.standings client place stage
     → may_step system.monitor system.clients c.state client place ≡ true → ⊥
 no_one_acts system c set sound covered stuck free client place Idle at may =
     not_stuck system c stuck (events.Begin client) _ refl (place, record { idle = at; left = has_call system c.state client place may; becomes = refl })
@@ -322,8 +323,8 @@ no_one_acts system c set sound covered stuck free client place (Notifying notes)
 -- a client that can act stands at its place
 pub record IsActor (system : System) (c : Configuration) (client : ℕ) : Type 0 where
   pub place : Place
-  pub phase : Phase
-  pub at : StandsAt c.standings client place phase
+  pub stage : Stage (List Note)
+  pub at : StandsAt c.standings client place stage
   pub may : may_step system.monitor system.clients c.state client place ≡ true
 
 pub actor : (system : System) (c : Configuration) (client : ℕ)
@@ -336,7 +337,7 @@ actor system c client can = in_list c.standings client refl can
         (λ place. may_step system.monitor system.clients c.state client place ≡ true)
         → IsActor system c client
     in_list [] which is found = absurd found
-    in_list (first ∷ more) zero is found = record { place = first.place; phase = first.phase; at = sym is; may = found }
+    in_list (first ∷ more) zero is found = record { place = first.place; stage = first.stage; at = sym is; may = found }
     in_list (first ∷ more) (suc which) is found = in_list more which is found
 
 pub stuck_ends : (system : System) (c : Configuration) → HasCountingPlan system → IsSound system c
@@ -344,7 +345,7 @@ pub stuck_ends : (system : System) (c : Configuration) → HasCountingPlan syste
 stuck_ends system c set sound covered stuck client can =
     let free = stuck_is_free system c set.is.rule set.is.scripts sound stuck c.owner refl in
     let one = actor system c client can in
-    no_one_acts system c set sound covered stuck free client one.place one.phase one.at one.may
+    no_one_acts system c set sound covered stuck free client one.place one.stage one.at one.may
 
 -- ---- over any events
 

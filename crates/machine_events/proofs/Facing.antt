@@ -19,7 +19,7 @@ use Rattle.machine_implicit.specs.Places.{call_at, block_at, inputs_at, tries_at
 use Rattle.machine_implicit.specs.Scripted.{FitsCall, FitsScripts, calls_of}
 use Rattle.machine_events.specs.Plans.{IsCondition}
 use Rattle.machine_events.specs.Configurations.{System, Configuration, StandsAt, guard_of, block_condition, waited_condition}
-use Rattle.machine_events.specs.Configurations.Phase.{Waiting}
+use Rattle.machine_events.specs.declared.event.Stage.TheVariants.{Waiting}
 use Rattle.machine_events.specs.Pending.{IsSystem, IsSound}
 pub use Rattle.machine_implicit.proofs.Fitting.{at_index, all_at, is_some_and}
 pub use Rattle.machine_implicit.proofs.Fitting.{calls_fit, block_there}

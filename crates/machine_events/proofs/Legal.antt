@@ -8,9 +8,10 @@ use Rattle.machine_implicit.specs.Runs.{Ends}
 use Rattle.machine_events.specs.declared.event.Event.{Event}
 use Rattle.machine_events.specs.declared.event.Event.TheVariants as events
 use Rattle.machine_events.specs.declared.log.Entry.{Entry}
-use Rattle.machine_events.specs.Configurations.{System, Phase, Configuration, StandsAt, initial, situation_of}
-use Rattle.machine_events.specs.Configurations.Phase.{Idle, Entering, Waiting}
-use Rattle.machine_events.specs.Configurations.Phase.{Woken, Inside, Notifying}
+use Rattle.machine_events.specs.declared.plan.Note.{Note}
+use Rattle.machine_events.specs.declared.event.Stage.{Stage}
+use Rattle.machine_events.specs.Configurations.{System, Configuration, StandsAt, initial, situation_of}
+use Rattle.machine_events.specs.declared.event.Stage.TheVariants.{Idle, Entering, Waiting, Woken, Inside, Notifying}
 use Rattle.machine_events.specs.Events.{IsEvent}
 use Rattle.machine_events.specs.Pending.{IsSystem, IsSound}
 use Rattle.machine_events.specs.Logs.{IsNotified, IsBegun, IsSection, IsLegal, IsClosed}
@@ -84,8 +85,8 @@ kept_lasts system set = record {
 -- ---- where it is closed
 
 no_one_acts : (system : System) (c : Configuration) → HasCountingPlan system → IsKept system c
-    → IsClosed system c → (client : ℕ) (place : Place) (phase : Phase)
-    → StandsAt c.standings client place phase
+    → IsClosed system c → (client : ℕ) (place : Place) (stage : Stage (List Note))
+    → StandsAt c.standings client place stage
     → may_step system.monitor system.clients c.state client place ≡ true → ⊥
 no_one_acts system c set kept closed client place Idle at may =
     let over = leb-true (length (calls_of system.clients client)) place.past (closed.each client place Idle at) in
@@ -103,4 +104,4 @@ pub closed_ends : (system : System) (c : Configuration) → HasCountingPlan syst
     → IsClosed system c → Ends system.monitor system.clients (situation_of c)
 closed_ends system c set kept closed client can =
     let one = actor system c client can in
-    no_one_acts system c set kept closed client one.place one.phase one.at one.may
+    no_one_acts system c set kept closed client one.place one.stage one.at one.may

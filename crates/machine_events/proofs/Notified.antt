@@ -25,12 +25,12 @@ use Rattle.machine_events.specs.declared.event.Event.TheVariants as events
 use Rattle.lang_monitor.specs.Candidates.{AllHold}
 use Rattle.machine_events.specs.Plans.{notes_at, condition_kind, has_note, has_broadcast, IsCondition, IsUntestedBroadcast}
 use Rattle.machine_events.specs.Laws.{HasCountingPlan}
-use Rattle.machine_events.specs.Configurations.{System, Phase, Standing, Configuration, StandsAt, put, initial, guard_of, waited_condition, block_condition}
-use Rattle.machine_events.specs.Configurations.Phase.{Idle, Entering, Waiting}
-use Rattle.machine_events.specs.Configurations.Phase.{Woken, Inside, Notifying}
+use Rattle.machine_events.specs.declared.event.Stage.{Stage}
+use Rattle.machine_events.specs.Configurations.{System, Standing, Configuration, StandsAt, put, initial, guard_of, waited_condition, block_condition}
+use Rattle.machine_events.specs.declared.event.Stage.TheVariants.{Idle, Entering, Waiting, Woken, Inside, Notifying}
 use Rattle.machine_events.specs.Events.{wake_all, fires, own_signal, own_notes, notes_after, NoneWaits, Locks, Waits, StepsInside, Wakes, Notifies, IsEvent}
 use Rattle.machine_events.specs.Pending.{holds_lock, IsSuffix, IsSystem, IsSound, HasOneOwner, announces, SomeStands, IsPending, IsCovered}
-use Rattle.machine_events.proofs.Standings.{one_phase, stands_within, came, mover_stands, unwoken_stays, none_waits}
+use Rattle.machine_events.proofs.Standings.{one_stage, stands_within, came, mover_stands, unwoken_stays, none_waits}
 use Rattle.machine_events.proofs.Facing.{Faces, faces, guard_is, condition_is, own_condition, has_condition, IsWaiter, waiter_in, waiter_guard}
 use Rattle.machine_events.proofs.Sound.{Did, did, target_apart, some_idle}
 use Rattle.machine_events.proofs.Applying.{none_needed_applies}
@@ -170,17 +170,17 @@ all_broadcasts condition (note ∷ notes) all has = elim (or_cases (note.conditi
 
 -- no other client has the lock where one is inside
 alone_inside : (c : Configuration) (client : ℕ) (place : Place) (other : ℕ) (others_place : Place)
-    (phase : Phase) → HasOneOwner c.standings c.owner → StandsAt c.standings client place Inside
-    → StandsAt c.standings other others_place phase
-    → holds_lock phase ≡ true → (other ≡ client) × (phase ≡ Inside)
-alone_inside c client place other others_place phase lock at others_at holds =
-    let same : other ≡ client = same_Some other client (sym (lock.only other others_place phase others_at holds) ∙ lock.only client place Inside at refl) in
-    (same, one_phase c.standings client others_place place phase Inside (subst (λ (who : ℕ). StandsAt c.standings who others_place phase) same others_at) at)
+    (stage : Stage (List Note)) → HasOneOwner c.standings c.owner → StandsAt c.standings client place Inside
+    → StandsAt c.standings other others_place stage
+    → holds_lock stage ≡ true → (other ≡ client) × (stage ≡ Inside)
+alone_inside c client place other others_place stage lock at others_at holds =
+    let same : other ≡ client = same_Some other client (sym (lock.only other others_place stage others_at holds) ∙ lock.only client place Inside at refl) in
+    (same, one_stage c.standings client others_place place stage Inside (subst (λ (who : ℕ). StandsAt c.standings who others_place stage) same others_at) at)
 
 -- who announces a condition while one is inside
 nobody_announces : (system : System) (c : Configuration) (client : ℕ) (place : Place)
     (condition : ℕ) → HasOneOwner c.standings c.owner → StandsAt c.standings client place Inside
-    → SomeStands c.standings (λ other others_place phase. announces phase condition) → ⊥
+    → SomeStands c.standings (λ other others_place stage. announces stage condition) → ⊥
 nobody_announces system c client place condition lock at (other, others_place, Notifying notes, others_at, is) = absurd (cc (alone_inside c client place other others_place (Notifying notes) lock at others_at refl).1)
 nobody_announces system c client place condition lock at (other, others_place, Idle, others_at, is) = true≢false (sym is)
 nobody_announces system c client place condition lock at (other, others_place, Entering, others_at, is) = true≢false (sym is)
@@ -222,13 +222,13 @@ ran_pending : (system : System) → HasCountingPlan system → (c : Configuratio
     (Notifying (notes_after system (block_at system.monitor call place) reply)))
 ran_pending system set c sound covered client place goes call block steps reply next at is notes = record {
   broadcasts = λ who others_place condition stands kind holds. elim (came c.standings client goes (Notifying (notes_after system (block_at system.monitor call place) reply)) who others_place (Waiting condition) within stands) [
-    | inl mover ↦ absurd (cc mover.where_phase)
+    | inl mover ↦ absurd (cc mover.where_stage)
     | inr other ↦
         let theirs = waiter_in system set.is c sound who others_place condition other.stood in
         let noted = makes_true condition theirs.2 (inputs_at theirs.0 others_place) theirs.3.which_is
         (was_false who others_place condition theirs.0 theirs.1 theirs.2 theirs.3 other.stood kind)
         (sym (waiter_guard system next who others_place condition theirs.0 theirs.1 theirs.2 theirs.3) ∙ holds) in
-        mover_stands c.standings client place goes Inside (Notifying (notes_after system (block_at system.monitor call place) reply)) (λ one ones_place phase. announces phase condition) at
+        mover_stands c.standings client place goes Inside (Notifying (notes_after system (block_at system.monitor call place) reply)) (λ one ones_place stage. announces stage condition) at
         (ap (λ (some : List Note). has_broadcast some condition) notes
         ∙ all_broadcasts condition (notes_at system.plan (block_at system.monitor call place)) (set.lawful.broadcasts condition kind (block_at system.monitor call place)) noted)
   ];

@@ -49,7 +49,7 @@ takes_and_gives before after seen later takes saw gives sees counted enough own 
 
 pub many_put : (test : ℕ → Standing → Bool) (standings : List Standing) (first client who : ℕ)
     (old new : Standing) → who ≡ first + client → slice_get standings client ≡ Some old
-    → how_many test first (put standings client new.place new.phase) + one_if (test who old)
+    → how_many test first (put standings client new.place new.stage) + one_if (test who old)
     ≡ how_many test first standings + one_if (test who new)
 many_put test [] first client who old new is at = absurd (none-some old at)
 many_put test (here ∷ more) first zero who old new is at =
@@ -62,7 +62,7 @@ many_put test (here ∷ more) first zero who old new is at =
     turned : (a b c d rest : ℕ) → a ≡ b → c ≡ d → (c + rest) + b ≡ (a + rest) + d
     turned a b c d rest one two = omega (arith, one, two)
 many_put test (here ∷ more) first (suc client) who old new is at =
-    beside (one_if (test first here)) (how_many test (suc first) (put more client new.place new.phase)) (how_many test (suc first) more) (one_if (test who old)) (one_if (test who new))
+    beside (one_if (test first here)) (how_many test (suc first) (put more client new.place new.stage)) (how_many test (suc first) more) (one_if (test who old)) (one_if (test who new))
     (many_put test more (suc first) client who old new (omega (arith, is)) at)
   where
     beside : (a b c d e : ℕ) → b + d ≡ c + e → (a + b) + d ≡ (a + c) + e

@@ -25,12 +25,12 @@ use Rattle.machine_events.specs.declared.plan.Note.{Note}
 use Rattle.machine_events.specs.declared.event.Event.{Event}
 use Rattle.machine_events.specs.declared.event.Event.TheVariants as events
 use Rattle.machine_events.specs.Plans.{notes_at}
-use Rattle.machine_events.specs.Configurations.{System, Phase, Standing, Configuration, StandsAt, put, idle_at, initial, situation_of, guard_of, waited_condition}
-use Rattle.machine_events.specs.Configurations.Phase.{Idle, Entering, Waiting}
-use Rattle.machine_events.specs.Configurations.Phase.{Woken, Inside, Notifying}
+use Rattle.machine_events.specs.declared.event.Stage.{Stage}
+use Rattle.machine_events.specs.Configurations.{System, Standing, Configuration, StandsAt, put, idle_at, initial, situation_of, guard_of, waited_condition}
+use Rattle.machine_events.specs.declared.event.Stage.TheVariants.{Idle, Entering, Waiting, Woken, Inside, Notifying}
 use Rattle.machine_events.specs.Events.{wake_all, waits_on, own_notes, notes_after, commit_at, Begins, Locks, Waits, StepsInside, Wakes, Notifies, Unlocks, IsEvent}
 use Rattle.machine_events.specs.Pending.{has_begun, holds_lock, condition_named, IsSuffix, IsHeldBy, HasOneOwner, AreToCome, IsSound}
-use Rattle.machine_events.proofs.Standings.{same_place, same_phase, one_phase, stands_within, put_length, put_same, stays, came, apart, woken_from, unwoken_stays, woken_length}
+use Rattle.machine_events.proofs.Standings.{same_place, same_stage, one_stage, stands_within, put_length, put_same, stays, came, apart, woken_from, unwoken_stays, woken_length}
 use Rattle.machine_implicit.proofs.Fitting.{first_fits, first_is, step_fits}
 use Rattle.machine_events.proofs.Facing.{Faces}
 
@@ -38,59 +38,59 @@ use Rattle.machine_events.proofs.Facing.{Faces}
 
 -- a client that holds the lock before and after, or neither
 pub owner_kept : (standings : List Standing) (owner : Option ℕ) (client : ℕ)
-    (place new_place : Place) (phase new_phase : Phase) → StandsAt standings client place phase
-    → HasOneOwner standings owner → holds_lock new_phase ≡ holds_lock phase
-    → HasOneOwner (put standings client new_place new_phase) owner
-owner_kept standings owner client place new_place phase new_phase at lock same = record {
+    (place new_place : Place) (stage new_stage : Stage (List Note)) → StandsAt standings client place stage
+    → HasOneOwner standings owner → holds_lock new_stage ≡ holds_lock stage
+    → HasOneOwner (put standings client new_place new_stage) owner
+owner_kept standings owner client place new_place stage new_stage at lock same = record {
   holds = λ who is. held who (lock.holds who is);
-  only = λ who others_place others_phase stands holds. elim (came standings client new_place new_phase who others_place others_phase (stands_within standings client place phase at) stands) [
+  only = λ who others_place others_stage stands holds. elim (came standings client new_place new_stage who others_place others_stage (stands_within standings client place stage at) stands) [
     | inl mover ↦
-        lock.only who place phase (subst (λ (one : ℕ). StandsAt standings one place phase) (sym mover.who) at) (sym same ∙ ap holds_lock (sym mover.where_phase) ∙ holds)
-    | inr other ↦ lock.only who others_place others_phase other.stood holds
+        lock.only who place stage (subst (λ (one : ℕ). StandsAt standings one place stage) (sym mover.who) at) (sym same ∙ ap holds_lock (sym mover.where_stage) ∙ holds)
+    | inr other ↦ lock.only who others_place others_stage other.stood holds
   ];
 }
   where
     held : (who : ℕ) → IsHeldBy standings who
-        → IsHeldBy (put standings client new_place new_phase) who
+        → IsHeldBy (put standings client new_place new_stage) who
     held who holder = elim (cases_eq who client) [
       | inl is ↦
           let own : StandsAt standings client holder.0 holder.1 = subst (λ (one : ℕ). StandsAt standings one holder.0 holder.1) is holder.2 in (
             new_place,
-            new_phase,
-            subst (λ (one : ℕ). StandsAt (put standings client new_place new_phase) one new_place new_phase) (sym is) (put_same standings client new_place new_phase (stands_within standings client place phase at)),
-            same ∙ ap holds_lock (one_phase standings client place holder.0 phase holder.1 at own) ∙ holder.3,
+            new_stage,
+            subst (λ (one : ℕ). StandsAt (put standings client new_place new_stage) one new_place new_stage) (sym is) (put_same standings client new_place new_stage (stands_within standings client place stage at)),
+            same ∙ ap holds_lock (one_stage standings client place holder.0 stage holder.1 at own) ∙ holder.3,
           )
-      | inr differs ↦ (holder.0, holder.1, stays standings client new_place new_phase who holder.0 holder.1 differs holder.2, holder.3)
+      | inr differs ↦ (holder.0, holder.1, stays standings client new_place new_stage who holder.0 holder.1 differs holder.2, holder.3)
     ]
 
 -- a client that takes the free lock
 pub owner_taken : (standings : List Standing) (client : ℕ) (place new_place : Place)
-    (phase new_phase : Phase) → StandsAt standings client place phase
-    → HasOneOwner standings None → holds_lock new_phase ≡ true
-    → HasOneOwner (put standings client new_place new_phase) (Some client)
-owner_taken standings client place new_place phase new_phase at lock holding = record {
+    (stage new_stage : Stage (List Note)) → StandsAt standings client place stage
+    → HasOneOwner standings None → holds_lock new_stage ≡ true
+    → HasOneOwner (put standings client new_place new_stage) (Some client)
+owner_taken standings client place new_place stage new_stage at lock holding = record {
   holds = λ who is. (
     new_place,
-    new_phase,
-    subst (λ (one : ℕ). StandsAt (put standings client new_place new_phase) one new_place new_phase) (same_Some client who is) (put_same standings client new_place new_phase (stands_within standings client place phase at)),
+    new_stage,
+    subst (λ (one : ℕ). StandsAt (put standings client new_place new_stage) one new_place new_stage) (same_Some client who is) (put_same standings client new_place new_stage (stands_within standings client place stage at)),
     holding,
   );
-  only = λ who others_place others_phase stands holds. elim (came standings client new_place new_phase who others_place others_phase (stands_within standings client place phase at) stands) [
+  only = λ who others_place others_stage stands holds. elim (came standings client new_place new_stage who others_place others_stage (stands_within standings client place stage at) stands) [
     | inl mover ↦ ap Some (sym mover.who)
-    | inr other ↦ absurd (none-some who (lock.only who others_place others_phase other.stood holds))
+    | inr other ↦ absurd (none-some who (lock.only who others_place others_stage other.stood holds))
   ];
 }
 
 -- a client that gives the lock back
 pub owner_gone : (standings : List Standing) (owner : Option ℕ) (client : ℕ)
-    (place new_place : Place) (phase new_phase : Phase) → StandsAt standings client place phase
-    → HasOneOwner standings owner → holds_lock phase ≡ true → holds_lock new_phase ≡ false
-    → HasOneOwner (put standings client new_place new_phase) None
-owner_gone standings owner client place new_place phase new_phase at lock held free = record {
+    (place new_place : Place) (stage new_stage : Stage (List Note)) → StandsAt standings client place stage
+    → HasOneOwner standings owner → holds_lock stage ≡ true → holds_lock new_stage ≡ false
+    → HasOneOwner (put standings client new_place new_stage) None
+owner_gone standings owner client place new_place stage new_stage at lock held free = record {
   holds = λ who is. absurd (none-some who is);
-  only = λ who others_place others_phase stands holds. elim (came standings client new_place new_phase who others_place others_phase (stands_within standings client place phase at) stands) [
-    | inl mover ↦ absurd (true≢false (sym holds ∙ ap holds_lock mover.where_phase ∙ free))
-    | inr other ↦ absurd (other.differs (same_Some who client (sym (lock.only who others_place others_phase other.stood holds) ∙ lock.only client place phase at held)))
+  only = λ who others_place others_stage stands holds. elim (came standings client new_place new_stage who others_place others_stage (stands_within standings client place stage at) stands) [
+    | inl mover ↦ absurd (true≢false (sym holds ∙ ap holds_lock mover.where_stage ∙ free))
+    | inr other ↦ absurd (other.differs (same_Some who client (sym (lock.only who others_place others_stage other.stood holds) ∙ lock.only client place stage at held)))
   ];
 }
 
@@ -99,116 +99,116 @@ owner_gone standings owner client place new_place phase new_phase at lock held f
 abbrev place_of : Standing → Place
 place_of standing = standing.place
 
-places_put : (standings : List Standing) (client : ℕ) (place : Place) (phase : Phase)
-    → map place_of (put standings client place phase)
+places_put : (standings : List Standing) (client : ℕ) (place : Place) (stage : Stage (List Note))
+    → map place_of (put standings client place stage)
     ≡ slice_set (map place_of standings) client place
-places_put [] client place phase = refl
-places_put (first ∷ standings) zero place phase = refl
-places_put (first ∷ standings) (suc client) place phase = ap (λ (more : List Place). first.place ∷ more) (places_put standings client place phase)
+places_put [] client place stage = refl
+places_put (first ∷ standings) zero place stage = refl
+places_put (first ∷ standings) (suc client) place stage = ap (λ (more : List Place). first.place ∷ more) (places_put standings client place stage)
 
 -- a client that moves at its place
-places_kept : (standings : List Standing) (client : ℕ) (place : Place) (phase new_phase : Phase)
-    → StandsAt standings client place phase
-    → map place_of standings ≡ map place_of (put standings client place new_phase)
-places_kept [] client place phase new_phase at = absurd (none-some (record { place = place; phase = phase }) at)
-places_kept (first ∷ standings) zero place phase new_phase at = ap (λ (one : Place). one ∷ map place_of standings) (ap place_of (same_Some first (record { place = place; phase = phase }) at))
-places_kept (first ∷ standings) (suc client) place phase new_phase at = ap (λ (more : List Place). first.place ∷ more) (places_kept standings client place phase new_phase at)
+places_kept : (standings : List Standing) (client : ℕ) (place : Place) (stage new_stage : Stage (List Note))
+    → StandsAt standings client place stage
+    → map place_of standings ≡ map place_of (put standings client place new_stage)
+places_kept [] client place stage new_stage at = absurd (none-some (record { place = place; stage = stage }) at)
+places_kept (first ∷ standings) zero place stage new_stage at = ap (λ (one : Place). one ∷ map place_of standings) (ap place_of (same_Some first (record { place = place; stage = stage }) at))
+places_kept (first ∷ standings) (suc client) place stage new_stage at = ap (λ (more : List Place). first.place ∷ more) (places_kept standings client place stage new_stage at)
 
 places_woken : (condition : ℕ) (standings : List Standing)
     → map place_of standings ≡ map place_of (wake_all condition standings)
 places_woken condition [] = refl
 places_woken condition (first ∷ standings) =
-    λ i. by first (waits_on condition first.phase) i ∷ places_woken condition standings i
+    λ i. by first (waits_on condition first.stage) i ∷ places_woken condition standings i
   where
     by : (one : Standing) (test : Bool) → one.place
-        ≡ place_of (cond test (record { place = one.place; phase = Woken condition }) one)
+        ≡ place_of (cond test (record { place = one.place; stage = Woken condition }) one)
     by one true = refl
     by one false = refl
 
-pub place_there : (standings : List Standing) (client : ℕ) (place : Place) (phase : Phase)
-    → StandsAt standings client place phase → slice_get (map place_of standings) client ≡ Some place
-place_there [] client place phase at = absurd (none-some (record { place = place; phase = phase }) at)
-place_there (first ∷ standings) zero place phase at = ap Some (ap place_of (same_Some first (record { place = place; phase = phase }) at))
-place_there (first ∷ standings) (suc client) place phase at = place_there standings client place phase at
+pub place_there : (standings : List Standing) (client : ℕ) (place : Place) (stage : Stage (List Note))
+    → StandsAt standings client place stage → slice_get (map place_of standings) client ≡ Some place
+place_there [] client place stage at = absurd (none-some (record { place = place; stage = stage }) at)
+place_there (first ∷ standings) zero place stage at = ap Some (ap place_of (same_Some first (record { place = place; stage = stage }) at))
+place_there (first ∷ standings) (suc client) place stage at = place_there standings client place stage at
 
 abbrev there : List Value → List Place → Situation
 there state places = record { state = state; places = places }
 
 -- ---- one client moves
 
-abbrev pub moved : List Value → Option ℕ → List Commit → List Standing → ℕ → Place → Phase
+abbrev pub moved : List Value → Option ℕ → List Commit → List Standing → ℕ → Place → Stage (List Note)
     → Configuration
-moved state owner commits standings client place phase = record { state = state; owner = owner; commits = commits; standings = put standings client place phase }
+moved state owner commits standings client place stage = record { state = state; owner = owner; commits = commits; standings = put standings client place stage }
 
 -- what is kept where one client moves, from what its new place must meet
-pub record MovesWell (system : System) (state : List Value) (owner : Option ℕ) (commits : List Commit) (standings : List Standing) (client : ℕ) (place : Place) (phase : Phase) : Type 0 where
+pub record MovesWell (system : System) (state : List Value) (owner : Option ℕ) (commits : List Commit) (standings : List Standing) (client : ℕ) (place : Place) (stage : Stage (List Note)) : Type 0 where
   pub run : IsRun system.monitor system.clients commits
-      (situation_of (moved state owner commits standings client place phase))
+      (situation_of (moved state owner commits standings client place stage))
   pub fits : FitsState system.monitor state
   pub is_place : FitsPlace system.monitor system.clients client place
-  pub begun : has_begun phase ≡ true → place.past < length (calls_of system.clients client)
-  pub lock : HasOneOwner (put standings client place phase) owner
-  pub notes : (notes : List Note) → phase ≡ Notifying notes → AreToCome system commits client notes
+  pub begun : has_begun stage ≡ true → place.past < length (calls_of system.clients client)
+  pub lock : HasOneOwner (put standings client place stage) owner
+  pub notes : (notes : List Note) → stage ≡ Notifying notes → AreToCome system commits client notes
   pub others : (other : ℕ) (others_place : Place) (notes : List Note) → (other ≡ client → ⊥)
       → StandsAt standings other others_place (Notifying notes)
       → AreToCome system commits other notes
-  pub waits : (condition : ℕ) → condition_named phase ≡ Some condition
+  pub waits : (condition : ℕ) → condition_named stage ≡ Some condition
       → (condition ≡ waited_condition system client place)
       × (tries_at system.clients client place ≡ false)
 
 pub moves_soundly : (system : System) (before : Configuration) (state : List Value)
-    (owner : Option ℕ) (commits : List Commit) (client : ℕ) (place : Place) (phase : Phase)
+    (owner : Option ℕ) (commits : List Commit) (client : ℕ) (place : Place) (stage : Stage (List Note))
     → IsSound system before → client < length before.standings
-    → MovesWell system state owner commits before.standings client place phase
-    → IsSound system (moved state owner commits before.standings client place phase)
-moves_soundly system before state owner commits client place phase sound within well = record {
+    → MovesWell system state owner commits before.standings client place stage
+    → IsSound system (moved state owner commits before.standings client place stage)
+moves_soundly system before state owner commits client place stage sound within well = record {
   run = well.run;
   fits = well.fits;
-  one_each = put_length before.standings client place phase ∙ sound.one_each;
-  places = λ other others_place others_phase at. elim (came before.standings client place phase other others_place others_phase within at) [
+  one_each = put_length before.standings client place stage ∙ sound.one_each;
+  places = λ other others_place others_stage at. elim (came before.standings client place stage other others_place others_stage within at) [
     | inl mover ↦
         subst (λ (who : ℕ). FitsPlace system.monitor system.clients who others_place) (sym mover.who)
         (subst (λ (one : Place). FitsPlace system.monitor system.clients client one) (sym mover.where_place) well.is_place)
-    | inr stood ↦ sound.places other others_place others_phase stood.stood
+    | inr stood ↦ sound.places other others_place others_stage stood.stood
   ];
-  begun = λ other others_place others_phase at begins. elim (came before.standings client place phase other others_place others_phase within at) [
+  begun = λ other others_place others_stage at begins. elim (came before.standings client place stage other others_place others_stage within at) [
     | inl mover ↦
         subst (λ (who : ℕ). others_place.past < length (calls_of system.clients who)) (sym mover.who)
-        (subst (λ (one : Place). one.past < length (calls_of system.clients client)) (sym mover.where_place) (well.begun (ap has_begun (sym mover.where_phase) ∙ begins)))
-    | inr stood ↦ sound.begun other others_place others_phase stood.stood begins
+        (subst (λ (one : Place). one.past < length (calls_of system.clients client)) (sym mover.where_place) (well.begun (ap has_begun (sym mover.where_stage) ∙ begins)))
+    | inr stood ↦ sound.begun other others_place others_stage stood.stood begins
   ];
   lock = well.lock;
-  notes = λ other others_place notes at. elim (came before.standings client place phase other others_place (Notifying notes) within at) [
-    | inl mover ↦ subst (λ (who : ℕ). AreToCome system commits who notes) (sym mover.who) (well.notes notes (sym mover.where_phase))
+  notes = λ other others_place notes at. elim (came before.standings client place stage other others_place (Notifying notes) within at) [
+    | inl mover ↦ subst (λ (who : ℕ). AreToCome system commits who notes) (sym mover.who) (well.notes notes (sym mover.where_stage))
     | inr stood ↦ well.others other others_place notes stood.differs stood.stood
   ];
-  waits = λ other others_place others_phase condition at named. elim (came before.standings client place phase other others_place others_phase within at) [
+  waits = λ other others_place others_stage condition at named. elim (came before.standings client place stage other others_place others_stage within at) [
     | inl mover ↦
         subst (λ (who : ℕ). (condition ≡ waited_condition system who others_place) × (tries_at system.clients who others_place ≡ false)) (sym mover.who)
         (subst (λ (one : Place). (condition ≡ waited_condition system client one) × (tries_at system.clients client one ≡ false)) (sym mover.where_place)
-        (well.waits condition (ap condition_named (sym mover.where_phase) ∙ named)))
-    | inr stood ↦ sound.waits other others_place others_phase condition stood.stood named
+        (well.waits condition (ap condition_named (sym mover.where_stage) ∙ named)))
+    | inr stood ↦ sound.waits other others_place others_stage condition stood.stood named
   ];
 }
 
 -- a client moves at its place, and the state and the commits stay
 pub moves_here : (system : System) (before : Configuration) (owner : Option ℕ) (client : ℕ)
-    (place : Place) (phase new_phase : Phase) → IsSound system before
-    → StandsAt before.standings client place phase
-    → (has_begun new_phase ≡ true → place.past < length (calls_of system.clients client))
-    → HasOneOwner (put before.standings client place new_phase) owner
-    → ((notes : List Note) → new_phase ≡ Notifying notes
+    (place : Place) (stage new_stage : Stage (List Note)) → IsSound system before
+    → StandsAt before.standings client place stage
+    → (has_begun new_stage ≡ true → place.past < length (calls_of system.clients client))
+    → HasOneOwner (put before.standings client place new_stage) owner
+    → ((notes : List Note) → new_stage ≡ Notifying notes
     → AreToCome system before.commits client notes)
-    → ((condition : ℕ) → condition_named new_phase ≡ Some condition
+    → ((condition : ℕ) → condition_named new_stage ≡ Some condition
     → (condition ≡ waited_condition system client place)
     × (tries_at system.clients client place ≡ false))
     → IsSound system (moved before.state owner before.commits before.standings client place
-    new_phase)
-moves_here system before owner client place phase new_phase sound at begins lock notes waits =
-    moves_soundly system before before.state owner before.commits client place new_phase sound (stands_within before.standings client place phase at) (record {
-      run = subst (λ (places : List Place). IsRun system.monitor system.clients before.commits (there before.state places)) (places_kept before.standings client place phase new_phase at) sound.run;
+    new_stage)
+moves_here system before owner client place stage new_stage sound at begins lock notes waits =
+    moves_soundly system before before.state owner before.commits client place new_stage sound (stands_within before.standings client place stage at) (record {
+      run = subst (λ (places : List Place). IsRun system.monitor system.clients before.commits (there before.state places)) (places_kept before.standings client place stage new_stage at) sound.run;
       fits = sound.fits;
-      is_place = sound.places client place phase at;
+      is_place = sound.places client place stage at;
       begun = begins;
       lock = lock;
       notes = notes;
@@ -228,15 +228,15 @@ begins_soundly system client place before next sound event =
     (λ notes is. absurd (cc is))
     (λ condition named. absurd (none-some condition named)))
 
-locks_from : (system : System) (client : ℕ) (place : Place) (phase : Phase) (before : Configuration)
+locks_from : (system : System) (client : ℕ) (place : Place) (stage : Stage (List Note)) (before : Configuration)
     → IsSound system before → before.owner ≡ None
-    → StandsAt before.standings client place phase → has_begun phase ≡ true
+    → StandsAt before.standings client place stage → has_begun stage ≡ true
     → IsSound system (moved before.state
     (Some client) before.commits before.standings client place Inside)
-locks_from system client place phase before sound free at begins =
-    moves_here system before (Some client) client place phase Inside sound at
-    (λ inside. sound.begun client place phase at begins)
-    (owner_taken before.standings client place place phase Inside at (subst (HasOneOwner before.standings) free sound.lock) refl)
+locks_from system client place stage before sound free at begins =
+    moves_here system before (Some client) client place stage Inside sound at
+    (λ inside. sound.begun client place stage at begins)
+    (owner_taken before.standings client place place stage Inside at (subst (HasOneOwner before.standings) free sound.lock) refl)
     (λ notes is. absurd (cc is))
     (λ condition named. absurd (none-some condition named))
 
@@ -284,8 +284,8 @@ wakes_soundly system client place condition before sound waits =
 
 -- ---- all that wait on a condition are woken
 
-pub holding_waits_not : (condition : ℕ) (phase : Phase) → holds_lock phase ≡ true
-    → waits_on condition phase ≡ false
+pub holding_waits_not : (condition : ℕ) (stage : Stage (List Note)) → holds_lock stage ≡ true
+    → waits_on condition stage ≡ false
 holding_waits_not condition Idle holds = refl
 holding_waits_not condition Entering holds = refl
 holding_waits_not condition (Waiting other) holds = absurd (true≢false (sym holds))
@@ -302,20 +302,20 @@ wakes_all_soundly system condition before sound = record {
   run = subst (λ (places : List Place). IsRun system.monitor system.clients before.commits (there before.state places)) (places_woken condition before.standings) sound.run;
   fits = sound.fits;
   one_each = woken_length before.standings condition ∙ sound.one_each;
-  places = λ client place phase at. elim (woken_from before.standings condition client place phase at) [
-    | inl stayed ↦ sound.places client place phase stayed.0
+  places = λ client place stage at. elim (woken_from before.standings condition client place stage at) [
+    | inl stayed ↦ sound.places client place stage stayed.0
     | inr woken ↦ sound.places client place (Waiting condition) woken.0
   ];
-  begun = λ client place phase at begins. elim (woken_from before.standings condition client place phase at) [
-    | inl stayed ↦ sound.begun client place phase stayed.0 begins
+  begun = λ client place stage at begins. elim (woken_from before.standings condition client place stage at) [
+    | inl stayed ↦ sound.begun client place stage stayed.0 begins
     | inr woken ↦ sound.begun client place (Waiting condition) woken.0 refl
   ];
   lock = record {
     holds = λ who is.
         let holder = sound.lock.holds who is in
         (holder.0, holder.1, unwoken_stays before.standings condition who holder.0 holder.1 holder.2 (holding_waits_not condition holder.1 holder.3), holder.3);
-    only = λ client place phase at holds. elim (woken_from before.standings condition client place phase at) [
-      | inl stayed ↦ sound.lock.only client place phase stayed.0 holds
+    only = λ client place stage at holds. elim (woken_from before.standings condition client place stage at) [
+      | inl stayed ↦ sound.lock.only client place stage stayed.0 holds
       | inr woken ↦ absurd (true≢false (sym holds ∙ ap holds_lock woken.1))
     ];
   };
@@ -323,8 +323,8 @@ wakes_all_soundly system condition before sound = record {
     | inl stayed ↦ sound.notes client place notes stayed.0
     | inr woken ↦ absurd (cc woken.1)
   ];
-  waits = λ client place phase named at is. elim (woken_from before.standings condition client place phase at) [
-    | inl stayed ↦ sound.waits client place phase named stayed.0 is
+  waits = λ client place stage named at is. elim (woken_from before.standings condition client place stage at) [
+    | inl stayed ↦ sound.waits client place stage named stayed.0 is
     | inr woken ↦ sound.waits client place (Waiting condition) named woken.0 (sym (ap condition_named woken.1) ∙ is)
   ];
 }
@@ -509,12 +509,12 @@ event_keeps_sound system rule scripts (events.Spurious client) before next sound
 
 -- ---- the start
 
-pub some_idle : (places : List Place) (client : ℕ) (place : Place) (phase : Phase)
-    → StandsAt (map idle_at places) client place phase
-    → (slice_get places client ≡ Some place) × (phase ≡ Idle)
-some_idle [] client place phase at = absurd (none-some (record { place = place; phase = phase }) at)
-some_idle (first ∷ places) zero place phase at = (ap Some (same_place first place Idle phase at), sym (same_phase first place Idle phase at))
-some_idle (first ∷ places) (suc client) place phase at = some_idle places client place phase at
+pub some_idle : (places : List Place) (client : ℕ) (place : Place) (stage : Stage (List Note))
+    → StandsAt (map idle_at places) client place stage
+    → (slice_get places client ≡ Some place) × (stage ≡ Idle)
+some_idle [] client place stage at = absurd (none-some (record { place = place; stage = stage }) at)
+some_idle (first ∷ places) zero place stage at = (ap Some (same_place first place Idle stage at), sym (same_stage first place Idle stage at))
+some_idle (first ∷ places) (suc client) place stage at = some_idle places client place stage at
 
 places_idle : (places : List Place) → places ≡ map place_of (map idle_at places)
 places_idle [] = refl
@@ -533,14 +533,14 @@ start_is_sound system rule scripts =
       run = subst (λ (some : List Place). IsRun system.monitor system.clients [] (there (start_of system.monitor) some)) (places_idle places) begun;
       fits = start_state_fits system.monitor (start_of system.monitor) rule refl;
       one_each = length-map places idle_at ∙ first_length system.monitor system.clients system.clients 0;
-      places = λ client place phase at.
-          subst (FitsPlace system.monitor system.clients client) (sym (first_is system.monitor system.clients client place (some_idle places client place phase at).0))
+      places = λ client place stage at.
+          subst (FitsPlace system.monitor system.clients client) (sym (first_is system.monitor system.clients client place (some_idle places client place stage at).0))
           (first_fits system.monitor system.clients client 0 rule scripts);
-      begun = λ client place phase at begins. absurd (true≢false (sym begins ∙ ap has_begun (some_idle places client place phase at).1));
+      begun = λ client place stage at begins. absurd (true≢false (sym begins ∙ ap has_begun (some_idle places client place stage at).1));
       lock = record {
         holds = λ client is. absurd (none-some client is);
-        only = λ client place phase at holds. absurd (true≢false (sym holds ∙ ap holds_lock (some_idle places client place phase at).1));
+        only = λ client place stage at holds. absurd (true≢false (sym holds ∙ ap holds_lock (some_idle places client place stage at).1));
       };
       notes = λ client place notes at. absurd (cc (some_idle places client place (Notifying notes) at).1);
-      waits = λ client place phase condition at named. absurd (none-some condition (sym (ap condition_named (some_idle places client place phase at).1) ∙ named));
+      waits = λ client place stage condition at named. absurd (none-some condition (sym (ap condition_named (some_idle places client place stage at).1) ∙ named));
     }

@@ -9,7 +9,7 @@ use Rattle.machine_implicit.specs.Places.{call_at}
 use Rattle.machine_events.specs.declared.event.Event.{Event}
 use Rattle.machine_events.specs.Plans.{IsCondition}
 use Rattle.machine_events.specs.Configurations.{System, Configuration, StandsAt, initial}
-use Rattle.machine_events.specs.Configurations.Phase.{Waiting}
+use Rattle.machine_events.specs.declared.event.Stage.TheVariants.{Waiting}
 use Rattle.machine_events.specs.Events.{Happen, AreEvents}
 use Rattle.machine_events.specs.Pending.{IsSystem, IsSound}
 use Rattle.machine_events.proofs.Facing.{no_assertion, waiter_in}

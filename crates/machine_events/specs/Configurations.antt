@@ -12,6 +12,8 @@ use Rattle.machine_implicit.specs.Places.{call_at, block_at, guard_at}
 use Rattle.machine_implicit.specs.Runs.{Situation, start_at}
 use Rattle.machine_events.specs.declared.plan.Note.{Note}
 use Rattle.machine_events.specs.declared.plan.Plan.{Plan}
+use Rattle.machine_events.specs.declared.event.Stage.{Stage}
+use Rattle.machine_events.specs.declared.event.Stage.TheVariants.{Idle}
 
 -- what the machine runs: a monitor, a plan for it, and what its clients call
 pub record System : Type 0 where
@@ -23,21 +25,10 @@ pub record System : Type 0 where
 abbrev pub system_under : MonitorParts → List Client → Plan → System
 system_under monitor clients plan = record { monitor = monitor; plan = plan; clients = clients }
 
--- at which stage a client is
-pub data Phase : Type 0 where
-  Idle : Phase
-  Entering : Phase
-  -- on the condition of this number
-  Waiting : (condition : ℕ) → Phase
-  Woken : (condition : ℕ) → Phase
-  Inside : Phase
-  -- the notes that are to come
-  Notifying : (notes : List Note) → Phase
-
--- a client's place in its script, and its stage there
+-- a client's place in its script, and its stage there, with the notes that are to come
 pub record Standing : Type 0 where
   pub place : Place
-  pub phase : Phase
+  pub stage : Stage (List Note)
 
 pub record Configuration : Type 0 where
   pub state : List Value
@@ -48,7 +39,7 @@ pub record Configuration : Type 0 where
 
 -- a client that is idle at a place
 abbrev pub idle_at : Place → Standing
-idle_at place = record { place = place; phase = Idle }
+idle_at place = record { place = place; stage = Idle }
 
 -- no owner, no commits, and every client idle at its first place
 abbrev pub initial : System → Configuration
@@ -64,14 +55,14 @@ abbrev pub situation_of : Configuration → Situation
 situation_of c = record { state = c.state; places = map (λ standing. standing.place) c.standings }
 
 -- the client stands there
-abbrev pub StandsAt : List Standing → ℕ → Place → Phase → Type 0
-StandsAt standings client place phase =
-    slice_get standings client ≡ Some (record { place = place; phase = phase })
+abbrev pub StandsAt : List Standing → ℕ → Place → Stage (List Note) → Type 0
+StandsAt standings client place stage =
+    slice_get standings client ≡ Some (record { place = place; stage = stage })
 
 -- the client stands there from now on
-abbrev pub put : List Standing → ℕ → Place → Phase → List Standing
-put standings client place phase =
-    slice_set standings client (record { place = place; phase = phase })
+abbrev pub put : List Standing → ℕ → Place → Stage (List Note) → List Standing
+put standings client place stage =
+    slice_set standings client (record { place = place; stage = stage })
 
 -- ---- the block that a client is at; with no call left its guard is false and its condition 0
 

@@ -13,12 +13,13 @@ use Rattle.machine_events.specs.Plans.{notes_at}
 use Rattle.machine_events.specs.declared.plan.Note.{Note}
 use Rattle.machine_events.specs.declared.event.Event.{Event}
 use Rattle.machine_events.specs.declared.event.Event.TheVariants as events
-use Rattle.machine_events.specs.Configurations.{System, Phase, Standing}
+use Rattle.machine_events.specs.declared.event.Stage.{Stage}
+use Rattle.machine_events.specs.Configurations.{System, Standing}
 use Rattle.machine_events.specs.Configurations.{Configuration, StandsAt, put}
 use Rattle.machine_events.specs.Configurations.{initial, guard_of}
 use Rattle.machine_events.specs.Configurations.{waited_condition, block_condition}
-use Rattle.machine_events.specs.Configurations.Phase.{Idle, Entering, Waiting}
-use Rattle.machine_events.specs.Configurations.Phase.{Woken, Inside, Notifying}
+use Rattle.machine_events.specs.declared.event.Stage.TheVariants.{Idle, Entering, Waiting}
+use Rattle.machine_events.specs.declared.event.Stage.TheVariants.{Woken, Inside, Notifying}
 
 -- ---- the rules, of a client at a place
 
@@ -122,15 +123,15 @@ abbrev pub NoneWaits : List Standing → ℕ → Type 0
 NoneWaits standings condition =
     (client : ℕ) (place : Place) → StandsAt standings client place (Waiting condition) → ⊥
 
-abbrev pub waits_on : ℕ → Phase → Bool
+abbrev pub waits_on : {N : Type 0} → ℕ → Stage N → Bool
 waits_on condition (Waiting other) = other == condition
-waits_on condition phase = false
+waits_on condition stage = false
 
 -- a client that waits on the condition is woken
 abbrev pub waking : ℕ → Standing → Standing
 waking condition standing =
-    if waits_on condition standing.phase
-    then record { place = standing.place; phase = Woken condition } else standing
+    if waits_on condition standing.stage
+    then record { place = standing.place; stage = Woken condition } else standing
 
 abbrev pub wake_all : ℕ → List Standing → List Standing
 wake_all condition standings = map (waking condition) standings

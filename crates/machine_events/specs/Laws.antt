@@ -22,7 +22,7 @@ use Rattle.machine_events.specs.Plans.{AreSomeOf, IsCondition, FitsPlan, IsLawfu
 pub use Rattle.machine_events.specs.Running.{MayRun}
 use Rattle.machine_events.specs.Counts.{IsLawfulByCounting}
 use Rattle.machine_events.specs.Configurations.{System, Configuration, StandsAt, situation_of}
-use Rattle.machine_events.specs.Configurations.Phase.{Waiting}
+use Rattle.machine_events.specs.declared.event.Stage.TheVariants.{Waiting}
 use Rattle.machine_events.specs.Events.{IsEvent, AreEvents}
 use Rattle.machine_events.specs.Logs.{IsLegal, IsClosed, IsBounded, commits_of}
 use Rattle.machine_events.specs.Pending.{IsSystem, IsSound, IsCovered, WakePending, IsStuck}

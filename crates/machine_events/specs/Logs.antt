@@ -11,9 +11,11 @@ use Rattle.machine_events.specs.declared.event.Event.TheVariants as events
 use Rattle.machine_events.specs.declared.log.Outcome.{Outcome}
 use Rattle.machine_events.specs.declared.log.Outcome.TheVariants as outcomes
 use Rattle.machine_events.specs.declared.log.Entry.{Entry}
-use Rattle.machine_events.specs.Configurations.{System, Phase, Standing, Configuration, StandsAt}
+use Rattle.machine_events.specs.declared.plan.Note.{Note}
+use Rattle.machine_events.specs.declared.event.Stage.{Stage}
+use Rattle.machine_events.specs.Configurations.{System, Standing, Configuration, StandsAt}
 use Rattle.machine_events.specs.Configurations.{initial}
-use Rattle.machine_events.specs.Configurations.Phase.{Idle, Waiting, Woken, Notifying}
+use Rattle.machine_events.specs.declared.event.Stage.TheVariants.{Idle, Waiting, Woken, Notifying}
 use Rattle.machine_events.specs.Events.{IsEvent, Begins, Locks, Waits, Runs, Refuses, Unlocks}
 use Rattle.machine_events.specs.Events.{WakesSpuriously}
 
@@ -137,15 +139,15 @@ commits_of (entry ∷ log) = commits_in entry entry.outcome ++ commits_of log
 -- ---- where a log may end
 
 -- it waits, or is idle with no call left
-abbrev pub rests : System → ℕ → Place → Phase → Bool
+abbrev pub rests : System → ℕ → Place → Stage (List Note) → Bool
 rests system client place (Waiting condition) = true
 rests system client place Idle = nat_le (length (calls_of system.clients client)) place.past
-rests system client place phase = false
+rests system client place stage = false
 
 pub record IsClosed (system : System) (c : Configuration) : Type 0 where
   pub free : c.owner ≡ None
-  pub each : (client : ℕ) (place : Place) (phase : Phase)
-      → StandsAt c.standings client place phase → rests system client place phase ≡ true
+  pub each : (client : ℕ) (place : Place) (stage : Stage (List Note))
+      → StandsAt c.standings client place stage → rests system client place stage ≡ true
 
 -- ---- the bound of a log
 

@@ -18,9 +18,11 @@ use Rattle.machine_events.specs.declared.event.Event.{Event}
 use Rattle.machine_events.specs.declared.event.Event.TheVariants as events
 use Rattle.machine_events.specs.Plans.{condition_kind, has_note, has_broadcast, FitsPlan}
 use Rattle.machine_events.specs.Counts.{Measure, IsCounted, slack, is_free, one_if}
-use Rattle.machine_events.specs.Configurations.{System, Phase, Standing, Configuration, StandsAt}
+use Rattle.machine_events.specs.declared.event.Stage.{Stage}
+use Rattle.machine_events.specs.Configurations.{System, Standing, Configuration, StandsAt}
 use Rattle.machine_events.specs.Configurations.{situation_of, guard_of, waited_condition}
-use Rattle.machine_events.specs.Configurations.Phase.{Idle, Waiting, Woken, Inside, Notifying}
+use Rattle.machine_events.specs.declared.event.Stage.TheVariants.{Idle, Waiting, Woken}
+use Rattle.machine_events.specs.declared.event.Stage.TheVariants.{Inside, Notifying}
 use Rattle.machine_events.specs.Events.{IsEvent, commit_at, notes_after}
 
 -- the monitor is one, and the clients' calls and the plan fit it
@@ -32,22 +34,22 @@ pub record IsSystem (system : System) : Type 0 where
 -- ---- what is kept whatever the plan
 
 -- it has begun the call that it is at
-abbrev pub has_begun : Phase → Bool
+abbrev pub has_begun : Stage (List Note) → Bool
 has_begun Idle = false
 has_begun (Notifying notes) = false
-has_begun phase = true
+has_begun stage = true
 
 -- inside or notifying
-abbrev pub holds_lock : Phase → Bool
+abbrev pub holds_lock : Stage (List Note) → Bool
 holds_lock Inside = true
 holds_lock (Notifying notes) = true
-holds_lock phase = false
+holds_lock stage = false
 
 -- the condition on which a client waits or was woken
-abbrev pub condition_named : Phase → Option ℕ
+abbrev pub condition_named : Stage (List Note) → Option ℕ
 condition_named (Waiting condition) = Some condition
 condition_named (Woken condition) = Some condition
-condition_named phase = None
+condition_named stage = None
 
 abbrev pub IsSuffix : List Note → List Note → Type 0
 IsSuffix rest whole = (taken : List Note) × (taken ++ rest ≡ whole)
@@ -55,14 +57,14 @@ IsSuffix rest whole = (taken : List Note) × (taken ++ rest ≡ whole)
 -- the client is inside or notifying
 abbrev pub IsHeldBy : List Standing → ℕ → Type 0
 IsHeldBy standings client =
-    (place : Place) × (phase : Phase) × StandsAt standings client place phase
-    × (holds_lock phase ≡ true)
+    (place : Place) × (stage : Stage (List Note)) × StandsAt standings client place stage
+    × (holds_lock stage ≡ true)
 
 -- one owner inside: an owner is inside or notifying, and no other client is
 pub record HasOneOwner (standings : List Standing) (owner : Option ℕ) : Type 0 where
   pub holds : (client : ℕ) → owner ≡ Some client → IsHeldBy standings client
-  pub only : (client : ℕ) (place : Place) (phase : Phase) → StandsAt standings client place phase
-      → holds_lock phase ≡ true → owner ≡ Some client
+  pub only : (client : ℕ) (place : Place) (stage : Stage (List Note))
+      → StandsAt standings client place stage → holds_lock stage ≡ true → owner ≡ Some client
 
 -- the commit is of the block of this number in the monitor
 pub record IsBlockNamed (system : System) (commit : Commit) (block : ℕ) : Type 0 where
@@ -89,12 +91,12 @@ pub record IsSound (system : System) (c : Configuration) : Type 0 where
   pub run : IsRun system.monitor system.clients c.commits (situation_of c)
   pub fits : FitsState system.monitor c.state
   pub one_each : length c.standings ≡ length system.clients
-  pub places : (client : ℕ) (place : Place) (phase : Phase)
-      → StandsAt c.standings client place phase
+  pub places : (client : ℕ) (place : Place) (stage : Stage (List Note))
+      → StandsAt c.standings client place stage
       → FitsPlace system.monitor system.clients client place
   -- a client that has begun a call has it left
-  pub begun : (client : ℕ) (place : Place) (phase : Phase)
-      → StandsAt c.standings client place phase → has_begun phase ≡ true
+  pub begun : (client : ℕ) (place : Place) (stage : Stage (List Note))
+      → StandsAt c.standings client place stage → has_begun stage ≡ true
       → place.past < length (calls_of system.clients client)
   pub lock : HasOneOwner c.standings c.owner
   pub notes : (client : ℕ) (place : Place) (notes : List Note)
@@ -102,31 +104,31 @@ pub record IsSound (system : System) (c : Configuration) : Type 0 where
       → AreToCome system c.commits client notes
   -- who waits or was woken is at its block's condition, and not at the first block of a call that
   -- tries
-  pub waits : (client : ℕ) (place : Place) (phase : Phase) (condition : ℕ)
-      → StandsAt c.standings client place phase → condition_named phase ≡ Some condition
+  pub waits : (client : ℕ) (place : Place) (stage : Stage (List Note)) (condition : ℕ)
+      → StandsAt c.standings client place stage → condition_named stage ≡ Some condition
       → (condition ≡ waited_condition system client place)
       × (tries_at system.clients client place ≡ false)
 
 -- ---- what is kept under a lawful plan
 
 -- some client stands there, and this is true of it
-abbrev pub SomeStands : List Standing → (ℕ → Place → Phase → Bool) → Type 0
+abbrev pub SomeStands : List Standing → (ℕ → Place → Stage (List Note) → Bool) → Type 0
 SomeStands standings test =
-    (client : ℕ) × (place : Place) × (phase : Phase) × StandsAt standings client place phase
-    × (test client place phase ≡ true)
+    (client : ℕ) × (place : Place) × (stage : Stage (List Note))
+    × StandsAt standings client place stage × (test client place stage ≡ true)
 
 -- a broadcast on the condition is to come
-abbrev pub announces : Phase → ℕ → Bool
+abbrev pub announces : Stage (List Note) → ℕ → Bool
 announces (Notifying notes) condition = has_broadcast notes condition
-announces phase condition = false
+announces stage condition = false
 
 -- it was woken on the condition, or is inside at a block of the condition, or has a note on it to
 -- come
-abbrev pub sees_to : System → ℕ → Place → Phase → ℕ → Bool
+abbrev pub sees_to : System → ℕ → Place → Stage (List Note) → ℕ → Bool
 sees_to system client place (Woken other) condition = other == condition
 sees_to system client place Inside condition = waited_condition system client place == condition
 sees_to system client place (Notifying notes) condition = has_note notes condition
-sees_to system client place phase condition = false
+sees_to system client place stage condition = false
 
 -- how many clients pass a test, the first of which has this number
 abbrev pub how_many : (ℕ → Standing → Bool) → ℕ → List Standing → ℕ
@@ -137,7 +139,7 @@ how_many test client (standing ∷ more) =
 -- how many see to a condition
 abbrev pub seeing : System → ℕ → List Standing → ℕ
 seeing system condition standings =
-    how_many (λ client standing. sees_to system client standing.place standing.phase condition) 0
+    how_many (λ client standing. sees_to system client standing.place standing.stage condition) 0
     standings
 
 -- those that may pass are not any number, and no more than see to the condition
@@ -154,7 +156,7 @@ AreAnnounced system state standings =
     → StandsAt standings client place (Waiting condition)
     → condition_kind system.plan condition ≡ Some kinds.Broadcast
     → guard_of system state client place ≡ true
-    → SomeStands standings (λ other others_place phase. announces phase condition)
+    → SomeStands standings (λ other others_place stage. announces stage condition)
 
 -- where a client waits on a condition of kind signal that is counted, a broadcast on it is to come,
 -- or as many see to it as may pass
@@ -164,7 +166,7 @@ AreCounted system state standings =
     → StandsAt standings client place (Waiting condition)
     → condition_kind system.plan condition ≡ Some kinds.Signal
     → (measure : Measure) → IsCounted system.monitor system.plan condition measure
-    → SomeStands standings (λ other others_place phase. announces phase condition)
+    → SomeStands standings (λ other others_place stage. announces stage condition)
     ⊎ IsEnough system state standings condition measure
 
 -- where a client waits whose guard is true, its wake-up is on its way

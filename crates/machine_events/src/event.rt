@@ -4,8 +4,11 @@ ghost use Rattle.std.specs.Prelude.{◌≡◌};
 ghost use Rattle.machine_events.specs.Stages.{is_waiting_stage};
 
 /// At which stage a client is. A condition is numbered from 1.
+///
+/// Who speaks of stages chooses how the notes that are to come are said: a configuration has their
+/// list, a view their number.
 #[derive(Clone, Copy, Debug, PartialEq, Eq)]
-pub enum Stage {
+pub enum Stage<N> {
     /// It has not begun its next block.
     Idle,
     /// It has begun its block, and wants the lock.
@@ -17,11 +20,11 @@ pub enum Stage {
     /// It owns the lock, and its guard is still to be tested.
     Inside,
     /// It owns the lock, its block has run or its call was refused, and its notes are made one by
-    /// one.
-    Notifying,
+    /// one: these are to come.
+    Notifying(N),
 }
 
-impl Stage {
+impl<N: Copy> Stage<N> {
     /// Whether a client at this stage waits.
     pub fn is_waiting(self) -> bool
         ensures { result ≡ is_waiting_stage self }

@@ -2,10 +2,10 @@
 use Rattle.std.proofs.Common.{◌≡◌, ◌⊎◌, ℕ, List, Option, Some, None, sym, ap, subst, ◌∙◌, inl, inr}
 use Rattle.machine_events.specs.declared.plan.Note.{Note}
 use Rattle.machine_events.specs.declared.log.Entry.{Entry}
-use Rattle.machine_events.specs.Configurations.{System, Phase, Standing}
+use Rattle.machine_events.specs.declared.event.Stage.{Stage}
+use Rattle.machine_events.specs.Configurations.{System, Standing}
 use Rattle.machine_events.specs.Configurations.{Configuration, StandsAt, put}
-use Rattle.machine_events.specs.Configurations.Phase.{Idle, Entering, Waiting}
-use Rattle.machine_events.specs.Configurations.Phase.{Woken, Inside, Notifying}
+use Rattle.machine_events.specs.declared.event.Stage.TheVariants.{Idle, Entering, Waiting, Woken, Inside, Notifying}
 use Rattle.machine_events.specs.Events.{Locks, Wakes}
 use Rattle.machine_events.specs.Logs.{IsNotified, IsBegun}
 use Rattle.machine_events.specs.Logs.IsNotified.{all_made, one_made}
@@ -14,45 +14,45 @@ use Rattle.machine_implicit.specs.declared.place.Place.{Place}
 
 -- each other client stood where it stands, or waited on the condition on which it is woken
 abbrev pub CameFrom : ℕ → List Standing → List Standing → Type 0
-CameFrom client before next = (other : ℕ) (place : Place) (phase : Phase) → (other ≡ client → ⊥) → StandsAt next other place phase
-    → StandsAt before other place phase ⊎ ((condition : ℕ) × StandsAt before other place (Waiting condition) × (phase ≡ Woken condition))
+CameFrom client before next = (other : ℕ) (place : Place) (stage : Stage (List Note)) → (other ≡ client → ⊥) → StandsAt next other place stage
+    → StandsAt before other place stage ⊎ ((condition : ℕ) × StandsAt before other place (Waiting condition) × (stage ≡ Woken condition))
 
 pub came_trans : (client : ℕ) (first second third : List Standing) → CameFrom client first second → CameFrom client second third → CameFrom client first third
-came_trans client first second third one two = λ other place phase differs at. elim (two other place phase differs at) [
-  | inl stood ↦ one other place phase differs stood
+came_trans client first second third one two = λ other place stage differs at. elim (two other place stage differs at) [
+  | inl stood ↦ one other place stage differs stood
   | inr woken ↦ elim (one other place (Waiting woken.0) differs woken.1) [
     | inl stood ↦ inr (woken.0, stood, woken.2)
     | inr again ↦ absurd (waiting_woken woken.0 again.0 again.2)
   ]
 ]
   where
-    waiting_woken : (condition another : ℕ) → Waiting condition ≡ Woken another → ⊥
+    waiting_woken : (condition another : ℕ) → ◌≡◌ {A = Stage (List Note)} (Waiting condition) (Woken another) → ⊥
     waiting_woken condition another is = cc is
 
-pub came_put : (client : ℕ) (place : Place) (phase : Phase) (standings next : List Standing) → next ≡ put standings client place phase → CameFrom client standings next
-came_put client place phase standings next is = λ other others_place others_phase differs at.
-    inl (sym (put_other standings client place phase other differs) ∙ subst (λ (some : List Standing). StandsAt some other others_place others_phase) is at)
+pub came_put : (client : ℕ) (place : Place) (stage : Stage (List Note)) (standings next : List Standing) → next ≡ put standings client place stage → CameFrom client standings next
+came_put client place stage standings next is = λ other others_place others_stage differs at.
+    inl (sym (put_other standings client place stage other differs) ∙ subst (λ (some : List Standing). StandsAt some other others_place others_stage) is at)
 
 came_wakes : (system : System) (client : ℕ) (c : Configuration) (note : Note) (target : Option ℕ) (woken : List Standing) → Wakes system c note target woken → CameFrom client c.standings woken
-came_wakes system client c note None woken (inl each) = λ other place phase differs at.
-    elim (woken_from c.standings note.condition other place phase (subst (λ (some : List Standing). StandsAt some other place phase) each.becomes at)) [
+came_wakes system client c note None woken (inl each) = λ other place stage differs at.
+    elim (woken_from c.standings note.condition other place stage (subst (λ (some : List Standing). StandsAt some other place stage) each.becomes at)) [
       | inl stood ↦ inl stood.0
       | inr waiting ↦ inr (note.condition, waiting.0, waiting.1)
     ]
-came_wakes system client c note None woken (inr nobody) = λ other place phase differs at. inl (subst (λ (some : List Standing). StandsAt some other place phase) nobody.becomes at)
-came_wakes system client c note (Some target) woken (target_place, one) = λ other place phase differs at.
-    elim (came c.standings target target_place (Woken note.condition) other place phase (stands_within c.standings target target_place (Waiting note.condition) one.waits)
-    (subst (λ (some : List Standing). StandsAt some other place phase) one.becomes at)) [
+came_wakes system client c note None woken (inr nobody) = λ other place stage differs at. inl (subst (λ (some : List Standing). StandsAt some other place stage) nobody.becomes at)
+came_wakes system client c note (Some target) woken (target_place, one) = λ other place stage differs at.
+    elim (came c.standings target target_place (Woken note.condition) other place stage (stands_within c.standings target target_place (Waiting note.condition) one.waits)
+    (subst (λ (some : List Standing). StandsAt some other place stage) one.becomes at)) [
       | inl mover ↦ inr (
         note.condition,
         subst (λ (who : ℕ). StandsAt c.standings who place (Waiting note.condition)) (sym mover.who) (subst (λ (at_place : Place). StandsAt c.standings target at_place (Waiting note.condition)) (sym mover.where_place) one.waits),
-        mover.where_phase,
+        mover.where_stage,
       )
       | inr stays ↦ inl stays.stood
     ]
 
 pub came_notified : (system : System) (log : List Entry) (client : ℕ) (c last : Configuration) → IsNotified system log client c last → CameFrom client c.standings last.standings
-came_notified system log client c last (all_made own place at) = λ other others_place phase differs stands. inl stands
+came_notified system log client c last (all_made own place at) = λ other others_place stage differs stands. inl stands
 came_notified system log client c last (one_made own next end target chosen happens more) =
     let notifies = happens.1 in
     let place = happens.0 in
@@ -63,7 +63,7 @@ came_notified system log client c last (one_made own next end target chosen happ
 
 came_begun : (system : System) (client : ℕ) (place : Place) (before begun : Configuration) → IsBegun system client place before begun → CameFrom client before.standings begun.standings
 came_begun system client place before begun (inl begins) = came_put client place Entering before.standings begun.standings (ap (λ (some : Configuration). some.standings) begins.becomes)
-came_begun system client place before begun (inr stays) = λ other others_place phase differs at. inl (subst (λ (some : Configuration). StandsAt some.standings other others_place phase) stays.1 at)
+came_begun system client place before begun (inr stays) = λ other others_place stage differs at. inl (subst (λ (some : Configuration). StandsAt some.standings other others_place stage) stays.1 at)
 
 came_locked : (system : System) (client : ℕ) (place : Place) (before begun locked : Configuration) → IsBegun system client place before begun → Locks client place begun locked → CameFrom client before.standings locked.standings
 came_locked system client place before begun locked begins locks =

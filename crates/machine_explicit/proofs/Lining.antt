@@ -9,11 +9,11 @@ use Rattle.std.proofs.lemmas.List.Quantifiers.{all_pairs_push}
 use Rattle.machine_explicit.proofs.Pigeonhole.{pigeonhole}
 use Rattle.std.proofs.lemmas.Bool.{true≢false, cases_eq, eqb-true, eq-eqb, ne_eqb}
 use Rattle.machine_events.specs.declared.plan.Note.{Note}
-use Rattle.machine_events.specs.Configurations.{System, Phase, Standing, StandsAt, put}
-use Rattle.machine_events.specs.Configurations.Phase.{Idle, Entering, Waiting}
-use Rattle.machine_events.specs.Configurations.Phase.{Woken, Inside, Notifying}
+use Rattle.machine_events.specs.declared.event.Stage.{Stage}
+use Rattle.machine_events.specs.Configurations.{System, Standing, StandsAt, put}
+use Rattle.machine_events.specs.declared.event.Stage.TheVariants.{Idle, Entering, Waiting, Woken, Inside, Notifying}
 use Rattle.machine_events.specs.Events.{wake_all}
-use Rattle.machine_events.proofs.Standings.{put_same, put_other, put_length, one_phase, stands_within, woken_from, unwoken_stays}
+use Rattle.machine_events.proofs.Standings.{put_same, put_other, put_length, one_stage, stands_within, woken_from, unwoken_stays}
 use Rattle.machine_explicit.specs.inner.Rings.{line_of, is_not, without}
 use Rattle.machine_explicit.specs.inner.Rings.{IsLine, AreLines, AreBefore}
 use Rattle.machine_implicit.specs.declared.place.Place.{Place}
@@ -35,14 +35,14 @@ ButOne target other condition = other ≡ target → ⊥
 abbrev pub ButOn : ℕ → ℕ → ℕ → Type 0
 ButOn on other condition = condition ≡ on → ⊥
 
-abbrev pub IsQuiet : Phase → Type 0
-IsQuiet phase = (condition : ℕ) → Waiting condition ≡ phase → ⊥
+abbrev pub IsQuiet : Stage (List Note) → Type 0
+IsQuiet stage = (condition : ℕ) → Waiting condition ≡ stage → ⊥
 
-condition_in : Phase → ℕ
+condition_in : Stage (List Note) → ℕ
 condition_in (Waiting condition) = condition
-condition_in phase = 0
+condition_in stage = 0
 
-pub same_waiting : (condition another : ℕ) → Waiting condition ≡ Waiting another → condition ≡ another
+pub same_waiting : (condition another : ℕ) → ◌≡◌ {A = Stage (List Note)} (Waiting condition) (Waiting another) → condition ≡ another
 unfolding condition_in
 same_waiting condition another is = ap condition_in is
 
@@ -68,26 +68,26 @@ nobody_left before next is other place condition = (
 )
 
 -- the client did not wait before the event, nor does it after it
-pub quiet_put : (P : ℕ → ℕ → Type 0) (client : ℕ) (place was_place : Place) (phase was : Phase) (before woken next : List Standing) → next ≡ put woken client place phase → StandsAt before client was_place was → IsQuiet was → IsQuiet phase
+pub quiet_put : (P : ℕ → ℕ → Type 0) (client : ℕ) (place was_place : Place) (stage was : Stage (List Note)) (before woken next : List Standing) → next ≡ put woken client place stage → StandsAt before client was_place was → IsQuiet was → IsQuiet stage
     → WaitsAfter P before woken → WaitsAfter P before next
-quiet_put P client place was_place phase was before woken next is stood quiet_before quiet after other others_place condition = (there, back)
+quiet_put P client place was_place stage was before woken next is stood quiet_before quiet after other others_place condition = (there, back)
   where
     there : StandsAt next other others_place (Waiting condition) → StandsAt before other others_place (Waiting condition) × P other condition
     there at =
-        let here : StandsAt (put woken client place phase) other others_place (Waiting condition) = subst (λ (some : List Standing). StandsAt some other others_place (Waiting condition)) is at in
+        let here : StandsAt (put woken client place stage) other others_place (Waiting condition) = subst (λ (some : List Standing). StandsAt some other others_place (Waiting condition)) is at in
         elim (cases_eq other client) [
           | inl same ↦
-              let its = subst (λ (who : ℕ). StandsAt (put woken client place phase) who others_place (Waiting condition)) same here in
-              let within : client < length woken = omega (arith, put_length woken client place phase, stands_within (put woken client place phase) client others_place (Waiting condition) its) in
-              absurd (quiet condition (one_phase (put woken client place phase) client others_place place (Waiting condition) phase its (put_same woken client place phase within)))
-          | inr differs ↦ (after other others_place condition).0 (sym (put_other woken client place phase other differs) ∙ here)
+              let its = subst (λ (who : ℕ). StandsAt (put woken client place stage) who others_place (Waiting condition)) same here in
+              let within : client < length woken = omega (arith, put_length woken client place stage, stands_within (put woken client place stage) client others_place (Waiting condition) its) in
+              absurd (quiet condition (one_stage (put woken client place stage) client others_place place (Waiting condition) stage its (put_same woken client place stage within)))
+          | inr differs ↦ (after other others_place condition).0 (sym (put_other woken client place stage other differs) ∙ here)
         ]
 
     back : StandsAt before other others_place (Waiting condition) → P other condition → StandsAt next other others_place (Waiting condition)
     back at allowed = elim (cases_eq other client) [
-      | inl same ↦ absurd (quiet_before condition (one_phase before client others_place was_place (Waiting condition) was (subst (λ (who : ℕ). StandsAt before who others_place (Waiting condition)) same at) stood))
+      | inl same ↦ absurd (quiet_before condition (one_stage before client others_place was_place (Waiting condition) was (subst (λ (who : ℕ). StandsAt before who others_place (Waiting condition)) same at) stood))
       | inr differs ↦ subst (λ (some : List Standing). StandsAt some other others_place (Waiting condition)) (sym is)
-          (put_other woken client place phase other differs ∙ (after other others_place condition).1 at allowed)
+          (put_other woken client place stage other differs ∙ (after other others_place condition).1 at allowed)
     ]
 
 pub one_left : (target : ℕ) (place : Place) (on : ℕ) (before next : List Standing) → StandsAt before target place (Waiting on) → next ≡ put before target place (Woken on) → WaitsAfter (ButOne target) before next
@@ -97,7 +97,7 @@ one_left target place on before next stood is other others_place condition = (th
     there at =
         let here : StandsAt (put before target place (Woken on)) other others_place (Waiting condition) = subst (λ (some : List Standing). StandsAt some other others_place (Waiting condition)) is at in
         let apart = λ (same : other ≡ target). woken_is_quiet on condition
-        (one_phase (put before target place (Woken on)) target others_place place (Waiting condition) (Woken on) (subst (λ (who : ℕ). StandsAt (put before target place (Woken on)) who others_place (Waiting condition)) same here)
+        (one_stage (put before target place (Woken on)) target others_place place (Waiting condition) (Woken on) (subst (λ (who : ℕ). StandsAt (put before target place (Woken on)) who others_place (Waiting condition)) same here)
         (put_same before target place (Woken on) (stands_within before target place (Waiting on) stood))) in
         (sym (put_other before target place (Woken on) other apart) ∙ here, apart)
 
@@ -227,7 +227,7 @@ lines_left since system next_system before next rings target place on same lengt
     apart : (condition client : ℕ) → (condition ≡ on → ⊥) → Contains (line_of rings condition) client → client ≡ target → ⊥
     apart condition client differs has is =
         let waits = (are.each condition).only client has in
-        differs (same_waiting condition on (one_phase before target waits.0 place (Waiting condition) (Waiting on) (subst (λ (who : ℕ). StandsAt before who waits.0 (Waiting condition)) is waits.1) stood))
+        differs (same_waiting condition on (one_stage before target waits.0 place (Waiting condition) (Waiting on) (subst (λ (who : ℕ). StandsAt before who waits.0 (Waiting condition)) is waits.1) stood))
 
 -- ---- the first leaves a line
 
@@ -297,7 +297,7 @@ line_joined since before next client place on number line within early inside is
     absent : Contains line client → ⊥
     absent has =
         let stood = lined.only client has in
-        inside_is_quiet on (one_phase before client stood.0 place (Waiting on) Inside stood.1 inside)
+        inside_is_quiet on (one_stage before client stood.0 place (Waiting on) Inside stood.1 inside)
 
 other_line : (since : List ℕ) (before next : List Standing) (client : ℕ) (place : Place) (on number condition : ℕ) (line : List ℕ) → (condition ≡ on → ⊥) → StandsAt before client place Inside → next ≡ put before client place (Waiting on)
     → IsLine since before condition line → IsLine (set since client (number + 1)) next condition line
@@ -305,7 +305,7 @@ other_line since before next client place on number condition line differs insid
   all = λ other others_place at.
       let here : StandsAt (put before client place (Waiting on)) other others_place (Waiting condition) = subst (λ (some : List Standing). StandsAt some other others_place (Waiting condition)) is at in
       lined.all other others_place (sym (put_other before client place (Waiting on) other (λ same. differs (same_waiting condition on
-      (one_phase (put before client place (Waiting on)) client others_place place (Waiting condition) (Waiting on)
+      (one_stage (put before client place (Waiting on)) client others_place place (Waiting condition) (Waiting on)
       (subst (λ (who : ℕ). StandsAt (put before client place (Waiting on)) who others_place (Waiting condition)) same here)
       (put_same before client place (Waiting on) (stands_within before client place Inside inside)))))) ∙ here);
   only = λ other has.
@@ -320,7 +320,7 @@ other_line since before next client place on number condition line differs insid
     absent : Contains line client → ⊥
     absent has =
         let stood = lined.only client has in
-        inside_is_quiet condition (one_phase before client stood.0 place (Waiting condition) Inside stood.1 inside)
+        inside_is_quiet condition (one_stage before client stood.0 place (Waiting condition) Inside stood.1 inside)
 
 pub lines_joined : (since : List ℕ) (system next_system : System) (before next : List Standing) (rings : List (List ℕ)) (client : ℕ) (place : Place) (on number : ℕ) → next_system ≡ system → AreBefore since number
     → on < length rings → StandsAt before client place Inside → next ≡ put before client place (Waiting on)
@@ -342,9 +342,9 @@ lines_joined since system next_system before next rings client place on number s
 
 -- ---- there is room in a line for each client
 
-pub line_is_short : (since : List ℕ) (standings : List Standing) (condition client : ℕ) (place : Place) (phase : Phase) (line : List ℕ) → IsLine since standings condition line → StandsAt standings client place phase → IsQuiet phase
+pub line_is_short : (since : List ℕ) (standings : List Standing) (condition client : ℕ) (place : Place) (stage : Stage (List Note)) (line : List ℕ) → IsLine since standings condition line → StandsAt standings client place stage → IsQuiet stage
     → length line < length standings
-line_is_short since standings condition client place phase line lined stood quiet =
+line_is_short since standings condition client place stage line lined stood quiet =
     omega (arith, pigeonhole (length line + 1) (length standings) number into one_to_one)
   where
     -- the clients of the line, and this one
@@ -354,14 +354,14 @@ line_is_short since standings condition client place phase line lined stood quie
     whole : AllPairs (λ one other. one ≡ other → ⊥) (line ++ client ∷ [])
     whole = all_pairs_push (λ one other. one ≡ other → ⊥) line client
         (λ i j d below within same. omega (arith, lined.rising i j d below within, ap (λ (who : ℕ). get_or since who 0) same))
-        (λ k d below same. quiet condition (one_phase standings client
-        (lined.only client (subst (λ (who : ℕ). Contains line who) same (Contains-get_or line k d below))).0 place (Waiting condition) phase
+        (λ k d below same. quiet condition (one_stage standings client
+        (lined.only client (subst (λ (who : ℕ). Contains line who) same (Contains-get_or line k d below))).0 place (Waiting condition) stage
         (lined.only client (subst (λ (who : ℕ). Contains line who) same (Contains-get_or line k d below))).1 stood))
 
     into : (i : ℕ) → i < length line + 1 → number i < length standings
     into i below = elim (Contains-push_cases line client (number i) (Contains-get_or (line ++ client ∷ []) i 0 (omega (arith, below, length_push line client)))) [
       | inl old ↦ let waits = lined.only (number i) old in stands_within standings (number i) waits.0 (Waiting condition) waits.1
-      | inr same ↦ omega (arith, same, stands_within standings client place phase stood)
+      | inr same ↦ omega (arith, same, stands_within standings client place stage stood)
     ]
 
     one_to_one : (i j : ℕ) → i < length line + 1 → j < length line + 1 → number i ≡ number j → i ≡ j

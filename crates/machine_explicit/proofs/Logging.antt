@@ -11,13 +11,13 @@ use Rattle.machine_implicit.specs.Scripted.{all_blocks, calls_of, AreClients, Fi
 use Rattle.machine_implicit.specs.Runs.{IsRun, Ends, first_places}
 use Rattle.machine_events.specs.declared.plan.Plan.{Plan}
 use Rattle.machine_events.specs.declared.event.Event.TheVariants as events
+use Rattle.machine_events.specs.declared.plan.Note.{Note}
 use Rattle.machine_events.specs.declared.event.Stage.{Stage}
 use Rattle.machine_events.specs.declared.log.Entry.{Entry}
 use Rattle.machine_events.specs.Plans.{FitsPlan}
 use Rattle.machine_events.specs.Counts.{IsLawfulByCounting}
-use Rattle.machine_events.specs.Configurations.{System, Phase, Standing, Configuration, StandsAt, put, idle_at, situation_of}
-use Rattle.machine_events.specs.Configurations.Phase.{Idle, Entering, Waiting}
-use Rattle.machine_events.specs.Configurations.Phase.{Woken, Inside, Notifying}
+use Rattle.machine_events.specs.Configurations.{System, Standing, Configuration, StandsAt, put, idle_at, situation_of}
+use Rattle.machine_events.specs.declared.event.Stage.TheVariants.{Idle, Entering, Waiting, Woken, Inside, Notifying}
 use Rattle.machine_events.specs.Events.{WakesSpuriously}
 use Rattle.machine_events.specs.Pending.{IsSystem, IsSound}
 use Rattle.machine_events.specs.Laws.{HasCountingPlan}
@@ -29,8 +29,8 @@ use Rattle.machine_events.proofs.Legal.{legal_keeps, sound_lasts, kept_lasts, cl
 use Rattle.machine_events.proofs.Commits.{legal_commits}
 use Rattle.machine_events.proofs.Bounds.{log_bounded, spurious_more}
 use Rattle.machine_events.proofs.Facing.{at_index, is_some_and}
-use Rattle.machine_events.proofs.Standings.{one_phase, stands_within, put_same, put_length}
-use Rattle.machine_explicit.specs.Machines.{Machine, Happened, NotAllowed, opened, stage_of}
+use Rattle.machine_events.proofs.Standings.{one_stage, stands_within, put_same, put_length}
+use Rattle.machine_explicit.specs.Machines.{Machine, Happened, NotAllowed, opened, shown_stage}
 use Rattle.machine_explicit.specs.Sections.{FreeMachine, HoldsAlways, HasEnded, is_between, MOST_SPURIOUS, room_of, spurious_in, spurious_entry, Rests, MadeSection, NotMade, WokenByNothing}
 use Rattle.machine_explicit.specs.inner.Waiting.{CanStart, NotStarted, MakesSection, MakesSectionOf, KeepsWaits, IsSettled, IsKept, free_of, since_after, stage_condition}
 use Rattle.machine_explicit.specs.inner.Rings.{line_of, without, IsLine, AreLines, AreBefore}
@@ -51,7 +51,7 @@ locked_not : (c : Configuration) (client : ℕ) → c.owner ≡ None → c.owner
 locked_not c client none owns = none-some client (sym none ∙ owns)
 
 -- no one owns the lock, and no client enters
-between_sections : (system : System) (c : Configuration) → IsSound system c → IsSettled c → (client : ℕ) (place : Place) (phase : Phase) → StandsAt c.standings client place phase → is_between phase ≡ true
+between_sections : (system : System) (c : Configuration) → IsSound system c → IsSettled c → (client : ℕ) (place : Place) (stage : Stage (List Note)) → StandsAt c.standings client place stage → is_between stage ≡ true
 between_sections system c sound settled client place Idle at = refl
 between_sections system c sound settled client place Entering at = absurd (settled.none_enters client place at)
 between_sections system c sound settled client place (Waiting condition) at = refl
@@ -189,28 +189,28 @@ keeps_none clients = record { one_each = same_length clients; each = λ client p
 
 -- ---- who can't make a section rests
 
-phase_rests : (machine : Machine) (client : ℕ) (place : Place) (phase : Phase) → IsSound machine.system machine.now → IsSettled machine.now → StandsAt machine.now.standings client place phase → (CanStart machine client → ⊥)
-    → rests machine.system client place phase ≡ true
-phase_rests machine client place Idle sound settled at never = by_test (nat_le (length (calls_of machine.system.clients client)) place.past) refl
+stage_rests : (machine : Machine) (client : ℕ) (place : Place) (stage : Stage (List Note)) → IsSound machine.system machine.now → IsSettled machine.now → StandsAt machine.now.standings client place stage → (CanStart machine client → ⊥)
+    → rests machine.system client place stage ≡ true
+stage_rests machine client place Idle sound settled at never = by_test (nat_le (length (calls_of machine.system.clients client)) place.past) refl
   where
     by_test : (test : Bool) → nat_le (length (calls_of machine.system.clients client)) place.past ≡ test → nat_le (length (calls_of machine.system.clients client)) place.past ≡ true
     by_test true is = is
     by_test false is = absurd (never (inl (place, at, leb-false (length (calls_of machine.system.clients client)) place.past is)))
-phase_rests machine client place Entering sound settled at never = absurd (settled.none_enters client place at)
-phase_rests machine client place (Waiting condition) sound settled at never = refl
-phase_rests machine client place (Woken condition) sound settled at never = absurd (never (inr (place, condition, at)))
-phase_rests machine client place Inside sound settled at never = absurd (locked_not machine.now client settled.free (sound.lock.only client place Inside at refl))
-phase_rests machine client place (Notifying notes) sound settled at never = absurd (locked_not machine.now client settled.free (sound.lock.only client place (Notifying notes) at refl))
+stage_rests machine client place Entering sound settled at never = absurd (settled.none_enters client place at)
+stage_rests machine client place (Waiting condition) sound settled at never = refl
+stage_rests machine client place (Woken condition) sound settled at never = absurd (never (inr (place, condition, at)))
+stage_rests machine client place Inside sound settled at never = absurd (locked_not machine.now client settled.free (sound.lock.only client place Inside at refl))
+stage_rests machine client place (Notifying notes) sound settled at never = absurd (locked_not machine.now client settled.free (sound.lock.only client place (Notifying notes) at refl))
 
 pub rests_when : (machine : Machine) (log : List Entry) (extra client : ℕ) → IsSound machine.system machine.now → IsSettled machine.now → client < length machine.system.clients → (CanStart machine client → ⊥)
     → Rests (record { system = machine.system; now = machine.now; log = log; extra = extra }) client
 rests_when machine log extra client sound settled within never =
     let standing = at_index machine.now.standings client (omega (arith, sound.one_each, within)) in
-    (standing.0.place, standing.0.phase, standing.1, phase_rests machine client standing.0.place standing.0.phase sound settled standing.1 never)
+    (standing.0.place, standing.0.stage, standing.1, stage_rests machine client standing.0.place standing.0.stage sound settled standing.1 never)
 
 -- ---- stages
 
-waiting_stage : (phase : Phase) (condition : ℕ) → stage_condition (stage_of phase) ≡ Some condition → phase ≡ Waiting condition
+waiting_stage : (stage : Stage (List Note)) (condition : ℕ) → stage_condition (shown_stage stage) ≡ Some condition → stage ≡ Waiting condition
 waiting_stage Idle condition is = absurd (none-some condition is)
 waiting_stage Entering condition is = absurd (none-some condition is)
 waiting_stage (Waiting on) condition is = ap Waiting (same_Some on condition is)
@@ -218,19 +218,19 @@ waiting_stage (Woken on) condition is = absurd (none-some condition is)
 waiting_stage Inside condition is = absurd (none-some condition is)
 waiting_stage (Notifying notes) condition is = absurd (none-some condition is)
 
-pub stage_tells : (standings : List Standing) (client condition : ℕ) (stage : Stage) → IsSomeAnd (slice_get standings client) (λ standing. stage ≡ stage_of standing.phase) → stage_condition stage ≡ Some condition
+pub stage_tells : (standings : List Standing) (client condition : ℕ) (stage : Stage ℕ) → IsSomeAnd (slice_get standings client) (λ standing. stage ≡ shown_stage standing.stage) → stage_condition stage ≡ Some condition
     → (place : Place) × StandsAt standings client place (Waiting condition)
 stage_tells standings client condition stage told waits =
-    let found = is_some_and (slice_get standings client) (λ (standing : Standing). stage ≡ stage_of standing.phase) told in
-    let which = waiting_stage found.0.phase condition (ap stage_condition (sym found.2) ∙ waits) in
-    (found.0.place, found.1 ∙ ap (λ (phase : Phase). Some (record { place = found.0.place; phase = phase })) which)
+    let found = is_some_and (slice_get standings client) (λ (standing : Standing). stage ≡ shown_stage standing.stage) told in
+    let which = waiting_stage found.0.stage condition (ap stage_condition (sym found.2) ∙ waits) in
+    (found.0.place, found.1 ∙ ap (λ (stage : Stage (List Note)). Some (record { place = found.0.place; stage = stage })) which)
 
-pub stage_denies : (standings : List Standing) (client : ℕ) (stage : Stage) → IsSomeAnd (slice_get standings client) (λ standing. stage ≡ stage_of standing.phase) → stage_condition stage ≡ None
+pub stage_denies : (standings : List Standing) (client : ℕ) (stage : Stage ℕ) → IsSomeAnd (slice_get standings client) (λ standing. stage ≡ shown_stage standing.stage) → stage_condition stage ≡ None
     → (place : Place) (condition : ℕ) → StandsAt standings client place (Waiting condition) → ⊥
 stage_denies standings client stage told waits place condition at =
-    let found = is_some_and (slice_get standings client) (λ (standing : Standing). stage ≡ stage_of standing.phase) told in
-    let same = one_phase standings client place found.0.place (Waiting condition) found.0.phase at found.1 in
-    none-some condition (sym waits ∙ ap stage_condition found.2 ∙ ap stage_condition (ap stage_of (sym same)))
+    let found = is_some_and (slice_get standings client) (λ (standing : Standing). stage ≡ shown_stage standing.stage) told in
+    let same = one_stage standings client place found.0.place (Waiting condition) found.0.stage at found.1 in
+    none-some condition (sym waits ∙ ap stage_condition found.2 ∙ ap stage_condition (ap shown_stage (sym same)))
 
 -- ---- what is kept, from call to call
 
@@ -266,13 +266,13 @@ opened_kept monitor plan clients extra machine capacity log rings rule few scrip
     standings : List Standing
     standings = map idle_at (first_places monitor clients 0 clients)
 
-    idle_only : (phase : Phase) → (Idle ≡ phase → ⊥) → (client : ℕ) (place : Place) → StandsAt standings client place phase → ⊥
-    idle_only phase apart client place at = apart (sym (some_idle (first_places monitor clients 0 clients) client place phase at).1)
+    idle_only : (stage : Stage (List Note)) → (Idle ≡ stage → ⊥) → (client : ℕ) (place : Place) → StandsAt standings client place stage → ⊥
+    idle_only stage apart client place at = apart (sym (some_idle (first_places monitor clients 0 clients) client place stage at).1)
 
-    idle_entering : Idle ≡ Entering → ⊥
+    idle_entering : ◌≡◌ {A = Stage (List Note)} Idle Entering → ⊥
     idle_entering same = cc same
 
-    idle_waiting : (condition : ℕ) → Idle ≡ Waiting condition → ⊥
+    idle_waiting : (condition : ℕ) → ◌≡◌ {A = Stage (List Note)} Idle (Waiting condition) → ⊥
     idle_waiting condition same = cc same
 
     empty_line : (count condition : ℕ) → line_of (replicate count []) condition ≡ []

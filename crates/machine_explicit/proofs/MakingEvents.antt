@@ -22,51 +22,48 @@ use Rattle.machine_events.specs.declared.plan.Plan.{Plan}
 use Rattle.machine_events.specs.declared.event.Event.TheVariants as events
 use Rattle.machine_explicit.specs.declared.config.Way.{Way}
 use Rattle.machine_explicit.specs.declared.config.Way.TheVariants as ways
-use Rattle.machine_explicit.specs.declared.position.Doing.{Doing}
-use Rattle.machine_explicit.specs.declared.position.Doing.TheVariants as doings
+use Rattle.machine_events.specs.declared.event.Stage.{Stage}
+use Rattle.machine_explicit.specs.declared.position.ToCome.{ToCome}
+use Rattle.machine_explicit.specs.declared.position.ToCome.TheVariants as comings
+use Rattle.machine_events.specs.declared.event.Stage.TheVariants.{Idle, Entering, Waiting, Woken, Inside, Notifying}
 use Rattle.machine_explicit.specs.declared.position.Position.{Position}
 use Rattle.machine_events.specs.Plans.{notes_at}
-use Rattle.machine_events.specs.Configurations.{System, Phase, Standing, Configuration, StandsAt, put, situation_of, guard_of, block_condition, waited_condition}
-use Rattle.machine_events.specs.Configurations.Phase.{Waiting, Inside, Notifying}
+use Rattle.machine_events.specs.Configurations.{System, Standing, Configuration, StandsAt, put, situation_of, guard_of, block_condition, waited_condition}
 use Rattle.machine_events.specs.Events.{IsEvent, StepsInside, Runs, Refuses, Waits, WaitsOrRefuses, own_signal, notes_after}
 use Rattle.machine_events.specs.Pending.{IsSystem, has_begun}
 use Rattle.machine_explicit.specs.Machines.{Machine, IsMachine, NotAllowed}
-use Rattle.machine_explicit.specs.inner.Positions.{phase_of, standing_of, machine_of, PositionAt, HasStepped, doing_after, HasFinished}
+use Rattle.machine_explicit.specs.inner.Positions.{coming_notes, stage_of, standing_of, machine_of, PositionAt, HasStepped, to_come_after, HasFinished}
 use Rattle.machine_explicit.specs.inner.Waiting.{IsInside, IsWay, Goes}
 use Rattle.machine_events.proofs.Facing.{all_at, at_index, calls_fit}
 use Rattle.machine_events.proofs.Standings.{one_place, put_same, stands_within}
-use Rattle.machine_explicit.proofs.Making.{position_stands, standing_position, map_put, lent_at, lent_place, position_within, event_keeps_machine}
+use Rattle.machine_explicit.proofs.Making.{position_stands, standing_position, notifying_made, map_put, lent_at, lent_place, position_within, event_keeps_machine}
 use Rattle.machine_explicit.proofs.Counting.{call_number_small, small_block}
 
-inside_doing : (plan : Plan) (doing : Doing) → phase_of plan doing ≡ Inside → doing ≡ doings.Inside
-inside_doing plan doings.Idle is = absurd (cc is)
-inside_doing plan doings.Entering is = absurd (cc is)
-inside_doing plan (doings.Waiting condition) is = absurd (cc is)
-inside_doing plan (doings.Woken condition) is = absurd (cc is)
-inside_doing plan doings.Inside is = refl
-inside_doing plan (doings.Notifying block from) is = absurd (cc is)
-inside_doing plan (doings.Signalling condition) is = absurd (cc is)
-inside_doing plan doings.Unlocking is = absurd (cc is)
+inside_kept : (plan : Plan) (kept : Stage ToCome) → stage_of plan kept ≡ Inside → kept ≡ Inside
+inside_kept plan Idle is = absurd (cc is)
+inside_kept plan Entering is = absurd (cc is)
+inside_kept plan (Waiting condition) is = absurd (cc is)
+inside_kept plan (Woken condition) is = absurd (cc is)
+inside_kept plan Inside is = refl
+inside_kept plan (Notifying to_come) is = absurd (cc is)
 
-waiting_doing : (plan : Plan) (doing : Doing) (condition : ℕ) → phase_of plan doing ≡ Waiting condition → doing ≡ doings.Waiting condition
-waiting_doing plan doings.Idle condition is = absurd (cc is)
-waiting_doing plan doings.Entering condition is = absurd (cc is)
-waiting_doing plan (doings.Waiting other) condition is = ap doings.Waiting (cc is)
-waiting_doing plan (doings.Woken other) condition is = absurd (cc is)
-waiting_doing plan doings.Inside condition is = absurd (cc is)
-waiting_doing plan (doings.Notifying block from) condition is = absurd (cc is)
-waiting_doing plan (doings.Signalling other) condition is = absurd (cc is)
-waiting_doing plan doings.Unlocking condition is = absurd (cc is)
+waiting_kept : (plan : Plan) (kept : Stage ToCome) (condition : ℕ) → stage_of plan kept ≡ Waiting condition → kept ≡ Waiting condition
+waiting_kept plan Idle condition is = absurd (cc is)
+waiting_kept plan Entering condition is = absurd (cc is)
+waiting_kept plan (Waiting other) condition is = ap Waiting (cc is)
+waiting_kept plan (Woken other) condition is = absurd (cc is)
+waiting_kept plan Inside condition is = absurd (cc is)
+waiting_kept plan (Notifying to_come) condition is = absurd (cc is)
 
-pub inside_made : (plan : Plan) (positions : List Position) (client : ℕ) (place : Place) → StandsAt (map (standing_of plan) positions) client place Inside → PositionAt positions client place doings.Inside
+pub inside_made : (plan : Plan) (positions : List Position) (client : ℕ) (place : Place) → StandsAt (map (standing_of plan) positions) client place Inside → PositionAt positions client place Inside
 inside_made plan positions client place at =
     let found = standing_position plan positions client place Inside at in
-    subst (λ (doing : Doing). PositionAt positions client place doing) (inside_doing plan found.0 found.2) found.1
+    subst (λ (kept : Stage ToCome). PositionAt positions client place kept) (inside_kept plan found.0 found.2) found.1
 
-pub waiting_made : (plan : Plan) (positions : List Position) (client : ℕ) (place : Place) (condition : ℕ) → StandsAt (map (standing_of plan) positions) client place (Waiting condition) → PositionAt positions client place (doings.Waiting condition)
+pub waiting_made : (plan : Plan) (positions : List Position) (client : ℕ) (place : Place) (condition : ℕ) → StandsAt (map (standing_of plan) positions) client place (Waiting condition) → PositionAt positions client place (Waiting condition)
 waiting_made plan positions client place condition at =
     let found = standing_position plan positions client place (Waiting condition) at in
-    subst (λ (doing : Doing). PositionAt positions client place doing) (waiting_doing plan found.0 condition found.2) found.1
+    subst (λ (kept : Stage ToCome). PositionAt positions client place kept) (waiting_kept plan found.0 condition found.2) found.1
 
 -- ---- a call
 
@@ -92,19 +89,19 @@ pub waited_is : (system : System) (client : ℕ) (place : Place) (call : Call) (
 waited_is system client place call block condition is number same = same ∙ ap (block_condition system.monitor) number ∙ sym (condition_at system client place call is)
 
 -- a client that has begun a call has it left
-pub has_call : (machine : Machine) (client : ℕ) (place : Place) (phase : Phase) → IsMachine machine → StandsAt machine.now.standings client place phase → has_begun phase ≡ true → place.past < length (calls_of machine.system.clients client)
-has_call machine client place phase meets at begun = meets.sound.begun client place phase at begun
+pub has_call : (machine : Machine) (client : ℕ) (place : Place) (stage : Stage (List Note)) → IsMachine machine → StandsAt machine.now.standings client place stage → has_begun stage ≡ true → place.past < length (calls_of machine.system.clients client)
+has_call machine client place stage meets at begun = meets.sound.begun client place stage at begun
 
 -- the numbers of a place with a call left are small
 pub record IsSmall (place : Place) : Type 0 where
   pub past : place.past < 16384
   pub block : place.block < 4
 
-pub place_small : (machine : Machine) (client : ℕ) (place : Place) (phase : Phase) → IsMachine machine → StandsAt machine.now.standings client place phase → has_begun phase ≡ true → IsSmall place
-place_small machine client place phase meets at begun =
+pub place_small : (machine : Machine) (client : ℕ) (place : Place) (stage : Stage (List Note)) → IsMachine machine → StandsAt machine.now.standings client place stage → has_begun stage ≡ true → IsSmall place
+place_small machine client place stage meets at begun =
     let system = machine.system in
-    let call = at_index (calls_of system.clients client) place.past (has_call machine client place phase meets at begun) in
-    let fit : FitsPlaceAt system.monitor place (Some call.0) = subst (FitsPlaceAt system.monitor place) call.1 (meets.sound.places client place phase at) in
+    let call = at_index (calls_of system.clients client) place.past (has_call machine client place stage meets at begun) in
+    let fit : FitsPlaceAt system.monitor place (Some call.0) = subst (FitsPlaceAt system.monitor place) call.1 (meets.sound.places client place stage at) in
     record {
       past = call_number_small system.clients client place.past call.0 meets.clients call.1;
       block = small_block system.monitor call.0 place meets.is.rule (call_fits system client place call.0 meets.is call.1) fit;
@@ -116,43 +113,43 @@ abbrev pub Told : MonitorParts → Plan → List Client → System
 Told monitor plan clients = record { monitor = monitor; plan = plan; clients = clients }
 
 pub wakens : (monitor : MonitorParts) (plan : Plan) (clients : List Client) (state : List Value) (owner : Option ℕ) (commits : List Commit) (positions : List Position) (client : ℕ) (place : Place) (condition : ℕ)
-    → PositionAt positions client place (doings.Waiting condition)
+    → PositionAt positions client place (Waiting condition)
     → IsEvent (record { monitor = monitor; plan = plan; clients = clients }) (events.Spurious client) (machine_of monitor plan clients state owner commits positions).now
-    (machine_of monitor plan clients state owner commits (set positions client (record { place = place; doing = doings.Woken condition }))).now
+    (machine_of monitor plan clients state owner commits (set positions client (record { place = place; stage = Woken condition }))).now
 wakens monitor plan clients state owner commits positions client place condition at = (
   place,
   condition,
   record {
-    waits = position_stands plan positions client place (doings.Waiting condition) at;
-    becomes = ap (λ (standings : List Standing). record { state = state; owner = owner; commits = commits; standings = standings }) (map_put plan positions client place (doings.Woken condition));
+    waits = position_stands plan positions client place (Waiting condition) at;
+    becomes = ap (λ (standings : List Standing). record { state = state; owner = owner; commits = commits; standings = standings }) (map_put plan positions client place (Woken condition));
   },
 )
 
 pub wakens_not : (monitor : MonitorParts) (plan : Plan) (clients : List Client) (state : List Value) (owner : Option ℕ) (commits : List Commit) (positions : List Position) (client : ℕ)
-    → ((place : Place) (condition : ℕ) → PositionAt positions client place (doings.Waiting condition) → ⊥)
+    → ((place : Place) (condition : ℕ) → PositionAt positions client place (Waiting condition) → ⊥)
     → NotAllowed (machine_of monitor plan clients state owner commits positions) (events.Spurious client)
 wakens_not monitor plan clients state owner commits positions client never next happens = never happens.0 happens.1 (waiting_made plan positions client happens.0 happens.1 happens.2.waits)
 
 pub stands_finished : (plan : Plan) (positions : List Position) (client : ℕ) (place : Place) → HasFinished plan positions client place → StandsAt (map (standing_of plan) positions) client place (Notifying [])
-stands_finished plan positions client place done = subst (λ (phase : Phase). StandsAt (map (standing_of plan) positions) client place phase) done.none (position_stands plan positions client place done.doing done.at)
+stands_finished plan positions client place done = subst (λ (notes : List Note). StandsAt (map (standing_of plan) positions) client place (Notifying notes)) done.none (position_stands plan positions client place (Notifying done.to_come) done.at)
 
 pub lent_finished : (plan : Plan) (positions : List Position) (client : ℕ) (place : Place) (one : Position) → HasFinished plan positions client place → one ≡ get_or positions client one → HasFinished plan positions client one.place
-lent_finished plan positions client place one done is = record { doing = done.doing; at = lent_at positions client place done.doing one done.at is; none = done.none }
+lent_finished plan positions client place one done is = record { to_come = done.to_come; at = lent_at positions client place (Notifying done.to_come) one done.at is; none = done.none }
 
 pub finished_made : (plan : Plan) (positions : List Position) (client : ℕ) (place : Place) → StandsAt (map (standing_of plan) positions) client place (Notifying []) → HasFinished plan positions client place
 finished_made plan positions client place stands =
-    let found = standing_position plan positions client place (Notifying []) stands in
-    record { doing = found.0; at = found.1; none = found.2 }
+    let found = notifying_made plan positions client place [] stands in
+    record { to_come = found.0; at = found.1; none = found.2 }
 
 pub unlocks : (monitor : MonitorParts) (plan : Plan) (clients : List Client) (state : List Value) (owner : Option ℕ) (commits : List Commit) (positions : List Position) (client : ℕ) (place : Place)
     → HasFinished plan positions client place
     → IsEvent (record { monitor = monitor; plan = plan; clients = clients }) (events.Unlock client) (machine_of monitor plan clients state owner commits positions).now
-    (machine_of monitor plan clients state None commits (set positions client (record { place = place; doing = doings.Idle }))).now
+    (machine_of monitor plan clients state None commits (set positions client (record { place = place; stage = Idle }))).now
 unlocks monitor plan clients state owner commits positions client place done = (
   place,
   record {
     notifying = stands_finished plan positions client place done;
-    becomes = ap (λ (standings : List Standing). record { state = state; owner = None; commits = commits; standings = standings }) (map_put plan positions client (place) doings.Idle);
+    becomes = ap (λ (standings : List Standing). record { state = state; owner = None; commits = commits; standings = standings }) (map_put plan positions client (place) Idle);
   },
 )
 
@@ -160,36 +157,35 @@ pub unlocks_not : (monitor : MonitorParts) (plan : Plan) (clients : List Client)
     → ((place : Place) → HasFinished plan positions client place → ⊥)
     → NotAllowed (machine_of monitor plan clients state owner commits positions) (events.Unlock client)
 unlocks_not monitor plan clients state owner commits positions client never next happens =
-    let found = standing_position plan positions client happens.0 (Notifying []) happens.1.notifying in
-    never happens.0 (record { doing = found.0; at = found.1; none = found.2 })
+    never happens.0 (finished_made plan positions client happens.0 happens.1.notifying)
 
 pub waits : (monitor : MonitorParts) (plan : Plan) (clients : List Client) (state : List Value) (owner : Option ℕ) (commits : List Commit) (positions : List Position) (client : ℕ) (place : Place) (condition : ℕ)
-    → PositionAt positions client place doings.Inside → guard_of (record { monitor = monitor; plan = plan; clients = clients }) state client place ≡ false → tries_at clients client place ≡ false
+    → PositionAt positions client place Inside → guard_of (record { monitor = monitor; plan = plan; clients = clients }) state client place ≡ false → tries_at clients client place ≡ false
     → condition ≡ waited_condition (record { monitor = monitor; plan = plan; clients = clients }) client place
     → Waits (record { monitor = monitor; plan = plan; clients = clients }) client place (machine_of monitor plan clients state owner commits positions).now
-    (machine_of monitor plan clients state None commits (set positions client (record { place = place; doing = doings.Waiting condition }))).now
+    (machine_of monitor plan clients state None commits (set positions client (record { place = place; stage = Waiting condition }))).now
 waits monitor plan clients state owner commits positions client place condition at guard patient same = record {
-  inside = position_stands plan positions client place doings.Inside at;
+  inside = position_stands plan positions client place Inside at;
   guard = guard;
   patient = patient;
   becomes = ap (λ (standings : List Standing). record { state = state; owner = None; commits = commits; standings = standings })
-      (map_put plan positions client place (doings.Waiting condition)
+      (map_put plan positions client place (Waiting condition)
       ∙ ap (λ (one : ℕ). put (map (standing_of plan) positions) client place (Waiting one)) same);
 }
 
 -- a client inside that waits now, waits on its condition
 pub waits_now : (plan : Plan) (positions : List Position) (client : ℕ) (place : Place) (condition : ℕ) → StandsAt (map (standing_of plan) positions) client place Inside
-    → StandsAt (map (standing_of plan) (set positions client (record { place = place; doing = doings.Waiting condition }))) client place (Waiting condition)
+    → StandsAt (map (standing_of plan) (set positions client (record { place = place; stage = Waiting condition }))) client place (Waiting condition)
 waits_now plan positions client place condition inside =
-    subst (λ (standings : List Standing). StandsAt standings client place (Waiting condition)) (sym (map_put plan positions client place (doings.Waiting condition)))
+    subst (λ (standings : List Standing). StandsAt standings client place (Waiting condition)) (sym (map_put plan positions client place (Waiting condition)))
     (put_same (map (standing_of plan) positions) client place (Waiting condition) (stands_within (map (standing_of plan) positions) client place Inside inside))
 
 -- ---- a client inside that makes its step
 
-notes_next : (system : System) (block : ℕ) (reply : Reply) → phase_of system.plan (doing_after system.monitor block reply) ≡ Notifying (notes_after system block reply)
+notes_next : (system : System) (block : ℕ) (reply : Reply) → coming_notes system.plan (to_come_after system.monitor block reply) ≡ notes_after system block reply
 notes_next system block replies.Overflow = by (block_condition system.monitor block == 0)
   where
-    by : (none : Bool) → phase_of system.plan (cond none doings.Unlocking (doings.Signalling (block_condition system.monitor block))) ≡ Notifying (cond none [] (own_signal system block ∷ []))
+    by : (none : Bool) → coming_notes system.plan (cond none comings.Nothing (comings.Signal (block_condition system.monitor block))) ≡ cond none [] (own_signal system block ∷ [])
     by true = refl
     by false = refl
 notes_next system block replies.Refused = refl
@@ -198,11 +194,11 @@ notes_next system block (replies.Int number) = refl
 notes_next system block (replies.Bool truth) = refl
 
 pub steps_inside : (monitor : MonitorParts) (plan : Plan) (clients : List Client) (state next : List Value) (owner : Option ℕ) (commits : List Commit) (positions : List Position) (client : ℕ) (one new : Position) (commit : Commit)
-    → PositionAt positions client one.place doings.Inside → HasStepped monitor clients client state next one new commit
+    → PositionAt positions client one.place Inside → HasStepped monitor clients client state next one new commit
     → StepsInside (record { monitor = monitor; plan = plan; clients = clients }) client one.place new.place commit.reply next (machine_of monitor plan clients state owner commits positions).now
     (machine_of monitor plan clients next owner (commits ++ commit ∷ []) (set positions client new)).now
 steps_inside monitor plan clients state next owner commits positions client one new commit at has = record {
-  inside = position_stands plan positions client one.place doings.Inside at;
+  inside = position_stands plan positions client one.place Inside at;
   step = has.step;
   becomes = λ i. record { state = next; owner = owner; commits = commits ++ has.commits i ∷ []; standings = standings i };
 }
@@ -212,7 +208,7 @@ steps_inside monitor plan clients state next owner commits positions client one 
     standings =
         map-set (standing_of plan) positions client new
         ∙ ap (put (map (standing_of plan) positions) client new.place)
-        (ap (phase_of plan) has.notes ∙ notes_next (record { monitor = monitor; plan = plan; clients = clients }) (block_at monitor has.step.call one.place) commit.reply)
+        (ap (stage_of plan) has.notes ∙ ap Notifying (notes_next (record { monitor = monitor; plan = plan; clients = clients }) (block_at monitor has.step.call one.place) commit.reply))
 
 -- there is room for its commit: with it the commits are a run still
 pub room_left : (before next : Machine) (commits : List Commit) (commit : Commit) (len capacity : ℕ) → IsMachine before → IsMachine next → next.system ≡ before.system → next.now.commits ≡ commits ++ commit ∷ []
@@ -253,38 +249,20 @@ none_runs_inside machine client never next (place, goes, reply, state, runs) = n
 
 -- ---- a client that has made all its notes
 
-pub all_made : (plan : Plan) (block from : ℕ) → length (notes_at plan block) ≤ from → phase_of plan (doings.Notifying block from) ≡ Notifying []
-all_made plan block from over = ap Notifying (drop_all from (notes_at plan block) over)
+pub none_left : (notes : List Note) → length notes ≡ 0 → notes ≡ []
+none_left [] is = refl
+none_left (note ∷ notes) is = absurd (omega (arith, is))
 
-some_dropped : (notes : List Note) (from : ℕ) → from < length notes → drop from notes ≡ [] → ⊥
-some_dropped [] from within is = absurd (omega arith)
-some_dropped (note ∷ notes) zero within is = cc is
-some_dropped (note ∷ notes) (suc from) within is = some_dropped notes from (omega arith) is
-
-pub not_all_made : (plan : Plan) (block from : ℕ) → from < length (notes_at plan block) → phase_of plan (doings.Notifying block from) ≡ Notifying [] → ⊥
-not_all_made plan block from within is = some_dropped (notes_at plan block) from within (cc is)
-
-pub not_made : (plan : Plan) (doing : Doing) → ((block from : ℕ) → doing ≡ doings.Notifying block from → ⊥) → (doing ≡ doings.Unlocking → ⊥) → phase_of plan doing ≡ Notifying [] → ⊥
-not_made plan doings.Idle never not_unlocking is = cc is
-not_made plan doings.Entering never not_unlocking is = cc is
-not_made plan (doings.Waiting other) never not_unlocking is = cc is
-not_made plan (doings.Woken other) never not_unlocking is = cc is
-not_made plan doings.Inside never not_unlocking is = cc is
-not_made plan (doings.Notifying block from) never not_unlocking is = never block from refl
-not_made plan doings.Unlocking never not_unlocking is = not_unlocking refl
-not_made plan (doings.Signalling other) never not_unlocking is = cc (ap (phase_notes) is)
-  where
-    phase_notes : Phase → List Note
-    phase_notes (Notifying notes) = notes
-    phase_notes phase = []
+pub some_left : (notes : List Note) → (length notes ≡ 0 → ⊥) → notes ≡ [] → ⊥
+some_left notes some is = some (ap length is)
 
 -- ---- the call of a client inside
 
 pub left_here : (monitor : MonitorParts) (plan : Plan) (clients : List Client) (state : List Value) (owner : Option ℕ) (commits : List Commit) (positions : List Position) (client : ℕ) (place : Place) (some : List Call)
-    → IsMachine (machine_of monitor plan clients state owner commits positions) → PositionAt positions client place doings.Inside → some ≡ calls_of clients client → place.past < length some
+    → IsMachine (machine_of monitor plan clients state owner commits positions) → PositionAt positions client place Inside → some ≡ calls_of clients client → place.past < length some
 left_here monitor plan clients state owner commits positions client place some meets at same =
     subst (λ (calls : List Call). place.past < length calls) (sym same)
-    (has_call (machine_of monitor plan clients state owner commits positions) client place Inside meets (position_stands plan positions client place doings.Inside at) refl)
+    (has_call (machine_of monitor plan clients state owner commits positions) client place Inside meets (position_stands plan positions client place Inside at) refl)
 
 -- what is known of its call
 pub record IsHere (monitor : MonitorParts) (clients : List Client) (client : ℕ) (place : Place) (call : Call) : Type 0 where
@@ -293,20 +271,20 @@ pub record IsHere (monitor : MonitorParts) (clients : List Client) (client : ℕ
   pub place_fits : FitsPlaceAt monitor place (Some call)
 
 pub call_here : (monitor : MonitorParts) (plan : Plan) (clients : List Client) (state : List Value) (owner : Option ℕ) (commits : List Commit) (positions : List Position) (client : ℕ) (place : Place) (some : List Call) (call : Call)
-    → IsMachine (machine_of monitor plan clients state owner commits positions) → PositionAt positions client place doings.Inside → some ≡ calls_of clients client → call ≡ get_or some place.past call
+    → IsMachine (machine_of monitor plan clients state owner commits positions) → PositionAt positions client place Inside → some ≡ calls_of clients client → call ≡ get_or some place.past call
     → IsHere monitor clients client place call
 call_here monitor plan clients state owner commits positions client place some call meets at same is =
     let found = call_is clients client place some call same (left_here monitor plan clients state owner commits positions client place some meets at same) is in
     record {
       is = found;
       fit = call_fits (Told monitor plan clients) client place call meets.is found;
-      place_fits = subst (FitsPlaceAt monitor place) found (meets.sound.places client place Inside (position_stands plan positions client place doings.Inside at));
+      place_fits = subst (FitsPlaceAt monitor place) found (meets.sound.places client place Inside (position_stands plan positions client place Inside at));
     }
 
 -- ---- a client inside, as its position is lent
 
 pub record GoesAt (monitor : MonitorParts) (plan : Plan) (clients : List Client) (state : List Value) (owner : Option ℕ) (commits : List Commit) (positions : List Position) (client : ℕ) (place : Place) (way : Way) : Type 0 where
-  pub at : PositionAt positions client place doings.Inside
+  pub at : PositionAt positions client place Inside
   pub is : IsWay (machine_of monitor plan clients state owner commits positions) client place way
   pub fits : FitsPlace monitor clients client place
 
@@ -315,7 +293,7 @@ pub goes_at : (monitor : MonitorParts) (plan : Plan) (clients : List Client) (st
     → GoesAt monitor plan clients state owner commits positions client one.place way
 goes_at monitor plan clients state owner commits positions client one way meets (place, inside, is) lent =
     let here = inside_made plan positions client place inside in
-    let same = lent_place positions client place doings.Inside one here lent in
+    let same = lent_place positions client place Inside one here lent in
     subst (λ (at : Place). GoesAt monitor plan clients state owner commits positions client at way) same (record {
       at = here;
       is = is;
@@ -324,7 +302,7 @@ goes_at monitor plan clients state owner commits positions client one way meets 
 
 pub goes_within : (monitor : MonitorParts) (plan : Plan) (clients : List Client) (state : List Value) (owner : Option ℕ) (commits : List Commit) (positions : List Position) (client : ℕ) (way : Way)
     → Goes (machine_of monitor plan clients state owner commits positions) client way → client < length positions
-goes_within monitor plan clients state owner commits positions client way (place, inside, is) = position_within positions client place doings.Inside (inside_made plan positions client place inside)
+goes_within monitor plan clients state owner commits positions client way (place, inside, is) = position_within positions client place Inside (inside_made plan positions client place inside)
 
 -- the event of its step
 pub runs : (monitor : MonitorParts) (plan : Plan) (clients : List Client) (state next : List Value) (owner : Option ℕ) (commits : List Commit) (positions : List Position) (client : ℕ) (one new : Position) (commit : Commit)

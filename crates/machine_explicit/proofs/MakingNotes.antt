@@ -1,7 +1,7 @@
 -- Notes of the machine as the code keeps it.
 use Rattle.std.proofs.Common.{◌≡◌, ℕ, zero, suc, ◌+◌, ◌-◌, ◌<◌, ◌≤◌, Bool, true, false, not, ◌||◌, List, [], ◌∷◌, ◌++◌, map, set, take, drop, length, get_or, Option, Some, None, refl, sym, ap, subst, ◌∙◌, arith, add-one}
 use Rattle.std.specs.Prelude.{slice_get, unwrap_or, IsSomeAnd, MatchOption}
-use Rattle.std.proofs.lemmas.List.{length-append, length-take, length-drop, length-map}
+use Rattle.std.proofs.lemmas.List.{drop_all, length-append, length-take, length-drop, length-map}
 use Rattle.std.proofs.lemmas.List.Elements.{All-head, All-tail}
 use Rattle.std.specs.List.{All}
 use Rattle.std.proofs.lemmas.Option.{none-some, same_Some, slice_get_read, slice_get_past}
@@ -14,13 +14,14 @@ use Rattle.lang_monitor.specs.Inputs.{reads_inputs}
 use Rattle.machine_implicit.specs.Steps.{condition_truth}
 use Rattle.machine_events.specs.declared.plan.Note.{Note}
 use Rattle.machine_events.specs.declared.plan.Plan.{Plan}
-use Rattle.machine_explicit.specs.declared.position.Doing.{Doing}
-use Rattle.machine_explicit.specs.declared.position.Doing.TheVariants as doings
+use Rattle.machine_explicit.specs.declared.position.ToCome.{ToCome}
+use Rattle.machine_explicit.specs.declared.position.ToCome.TheVariants as comings
+use Rattle.machine_events.specs.declared.event.Stage.TheVariants.{Notifying}
+use Rattle.machine_implicit.specs.declared.place.Place.{Place}
 use Rattle.machine_explicit.specs.declared.position.Position.{Position}
 use Rattle.machine_explicit.specs.declared.notes.Next.{Next}
 use Rattle.machine_events.specs.Plans.{notes_at, FitsNote, FitsNotes, FitsPlan}
-use Rattle.machine_events.specs.Configurations.Phase.{Notifying}
-use Rattle.machine_explicit.specs.inner.Positions.{phase_of, HasNoNext, IsNext, IsNoteOf, CanTest, fires_in}
+use Rattle.machine_explicit.specs.inner.Positions.{coming_notes, PositionAt, HasNoNext, IsFirstNote, IsNext, IsNoteOf, CanTest, fires_in}
 use Rattle.machine_events.proofs.Facing.{all_at, is_some_and}
 
 -- ---- a walk that writes each element
@@ -57,72 +58,57 @@ first_dropped [] from note is = absurd (none-some note is)
 first_dropped (first ∷ notes) zero note is = ap (λ (one : Note). one ∷ notes) (same_Some first note is)
 first_dropped (first ∷ notes) (suc from) note is = first_dropped notes from note is
 
-dropped_beyond : (notes : List Note) (from : ℕ) (note : Note) (more : List Note) → length notes ≤ from → drop from notes ≡ note ∷ more → ⊥
-dropped_beyond [] zero note more place is = cc is
-dropped_beyond [] (suc from) note more place is = cc is
-dropped_beyond (first ∷ notes) zero note more place is = omega arith
-dropped_beyond (first ∷ notes) (suc from) note more place is = dropped_beyond notes from note more (omega arith) is
-
 made_found : (positions : List Position) (client : ℕ) (one : Position) → client < length positions → one ≡ get_or positions client one → slice_get positions client ≡ Some one
 made_found positions client one within is = slice_get_read positions (length positions) client one refl within is
 
-pub next_own : (plan : Plan) (positions : List Position) (client block from : ℕ) (one : Position) (next : Next) → client < length positions → one ≡ get_or positions client one → one.doing ≡ doings.Notifying block from
-    → slice_get (notes_at plan block) from ≡ Some next.note → next.rest ≡ doings.Notifying block (from + 1) → IsNext plan positions client next
-next_own plan positions client block from one next within is doing note rest = record {
-  place = one.place;
-  doing = doings.Notifying block from;
+pub own_first : (plan : Plan) (to_come : ToCome) (block from : ℕ) → to_come ≡ comings.Block block from → (found : Option Next) → MatchOption found (length (notes_at plan block) ≤ from) (λ next. IsNoteOf plan block from next)
+    → MatchOption found (coming_notes plan to_come ≡ []) (λ next. IsFirstNote plan to_come next)
+own_first plan to_come block from is None over = ap (coming_notes plan) is ∙ drop_all from (notes_at plan block) over
+own_first plan to_come block from is (Some next) told = record {
   more = drop (suc from) (notes_at plan block);
-  at = made_found positions client one within is ∙ (λ i. Some (record { place = one.place; doing = doing i }));
-  first = ap Notifying (first_dropped (notes_at plan block) from next.note note);
-  then_more = ap (phase_of plan) rest ∙ ap (λ (at : ℕ). Notifying (drop at (notes_at plan block))) (add-one from);
-  source = λ tested. (block, from, note);
+  notes = ap (coming_notes plan) is ∙ first_dropped (notes_at plan block) from next.note told.note;
+  then_more = ap (coming_notes plan) told.rest ∙ ap (λ (at : ℕ). drop at (notes_at plan block)) (add-one from);
+  source = λ tested. (block, from, told.note);
 }
 
-pub next_signal : (plan : Plan) (positions : List Position) (client condition : ℕ) (one : Position) → client < length positions → one ≡ get_or positions client one → one.doing ≡ doings.Signalling condition
-    → IsNext plan positions client (record { note = record { condition = condition; all = false; tested = false }; rest = doings.Unlocking })
-next_signal plan positions client condition one within is doing = record {
-  place = one.place;
-  doing = doings.Signalling condition;
+pub signal_first : (plan : Plan) (to_come : ToCome) (condition : ℕ) → to_come ≡ comings.Signal condition → IsFirstNote plan to_come (record { note = record { condition = condition; all = false; tested = false }; rest = comings.Nothing })
+signal_first plan to_come condition is = record {
   more = [];
-  at = made_found positions client one within is ∙ (λ i. Some (record { place = one.place; doing = doing i }));
-  first = refl;
+  notes = ap (coming_notes plan) is;
   then_more = refl;
   source = λ tested. absurd (true≢false (sym tested));
 }
 
-no_next : (plan : Plan) (doing : Doing) (note : Note) (more : List Note) → ((block from : ℕ) → doing ≡ doings.Notifying block from → length (notes_at plan block) ≤ from) → ((condition : ℕ) → doing ≡ doings.Signalling condition → ⊥)
-    → phase_of plan doing ≡ Notifying (note ∷ more) → ⊥
-no_next plan doings.Idle note more place never is = cc is
-no_next plan doings.Entering note more place never is = cc is
-no_next plan (doings.Waiting on) note more place never is = cc is
-no_next plan (doings.Woken on) note more place never is = cc is
-no_next plan doings.Inside note more place never is = cc is
-no_next plan (doings.Notifying block from) note more place never is = dropped_beyond (notes_at plan block) from note more (place block from refl) (cc is)
-no_next plan (doings.Signalling condition) note more place never is = never condition refl
-no_next plan doings.Unlocking note more place never is = nothing (cc is)
-  where
-    nothing : ◌≡◌ {A = List Note} [] (note ∷ more) → ⊥
-    nothing same = cc same
+-- ---- a client that is notifying
 
-pub next_none : (plan : Plan) (positions : List Position) (client : ℕ) (one : Position) → client < length positions → one ≡ get_or positions client one
-    → ((block from : ℕ) → one.doing ≡ doings.Notifying block from → length (notes_at plan block) ≤ from) → ((condition : ℕ) → one.doing ≡ doings.Signalling condition → ⊥) → HasNoNext plan positions client
-next_none plan positions client one within is place never others_place doing note more at first =
-    let same : one.doing ≡ doing = ap (λ (m : Position). m.doing) (same_Some one (record { place = others_place; doing = doing }) (sym (made_found positions client one within is) ∙ at)) in
-    no_next plan one.doing note more place never (ap (phase_of plan) same ∙ first)
+pub same_coming : (positions : List Position) (client : ℕ) (one : Position) (to_come others : ToCome) (place : Place) → client < length positions → one ≡ get_or positions client one → one.stage ≡ Notifying to_come
+    → PositionAt positions client place (Notifying others) → others ≡ to_come
+same_coming positions client one to_come others place within is notifying at =
+    inner (ap (λ (m : Position). m.stage) (same_Some (record { place = place; stage = Notifying others }) one (sym at ∙ made_found positions client one within is)) ∙ notifying)
+  where
+    inner : Notifying others ≡ Notifying to_come → others ≡ to_come
+    inner same = cc same
+
+pub not_notifying : (positions : List Position) (client : ℕ) (one : Position) (others : ToCome) (place : Place) → client < length positions → one ≡ get_or positions client one → ((to_come : ToCome) → one.stage ≡ Notifying to_come → ⊥)
+    → PositionAt positions client place (Notifying others) → ⊥
+not_notifying positions client one others place within is never at =
+    never others (sym (ap (λ (m : Position). m.stage) (same_Some (record { place = place; stage = Notifying others }) one (sym at ∙ made_found positions client one within is))))
+
+pub next_of : (plan : Plan) (positions : List Position) (client : ℕ) (one : Position) (to_come : ToCome) → client < length positions → one ≡ get_or positions client one → one.stage ≡ Notifying to_come
+    → (found : Option Next) → MatchOption found (coming_notes plan to_come ≡ []) (λ next. IsFirstNote plan to_come next)
+    → MatchOption found (HasNoNext plan positions client) (λ next. IsNext plan positions client next)
+next_of plan positions client one to_come within is notifying None none = λ place others at. ap (coming_notes plan) (same_coming positions client one to_come others place within is notifying at) ∙ none
+next_of plan positions client one to_come within is notifying (Some next) first =
+    record { place = one.place; to_come = to_come; at = made_found positions client one within is ∙ (λ i. Some (record { place = one.place; stage = notifying i })); first = first }
+
+pub next_none : (plan : Plan) (positions : List Position) (client : ℕ) (one : Position) → client < length positions → one ≡ get_or positions client one → ((to_come : ToCome) → one.stage ≡ Notifying to_come → ⊥)
+    → HasNoNext plan positions client
+next_none plan positions client one within is never place others at = absurd (not_notifying positions client one others place within is never at)
 
 pub next_beyond : (plan : Plan) (positions : List Position) (client : ℕ) → length positions ≤ client → HasNoNext plan positions client
-next_beyond plan positions client place others_place doing note more at first = none-some (record { place = others_place; doing = doing }) (sym (slice_get_past positions client place) ∙ at)
+next_beyond plan positions client beyond place others at = absurd (none-some (record { place = place; stage = Notifying others }) (sym (slice_get_past positions client beyond) ∙ at))
 
-block_same : (block from other other_from : ℕ) → doings.Notifying block from ≡ doings.Notifying other other_from → (block ≡ other) × (from ≡ other_from)
-block_same block from other other_from same = (cc same, cc same)
-
-pub own_beyond : (plan : Plan) (doing : Doing) (block from : ℕ) → doing ≡ doings.Notifying block from → length (notes_at plan block) ≤ from → (other other_from : ℕ) → doing ≡ doings.Notifying other other_from → length (notes_at plan other) ≤ other_from
-own_beyond plan doing block from is place other other_from also =
-    let same = block_same block from other other_from (sym is ∙ also) in
-    omega (arith, place, same.1, ap (λ (one : ℕ). length (notes_at plan one)) same.0)
-
-pub not_signal : (doing : Doing) (block from condition : ℕ) → doing ≡ doings.Notifying block from → doing ≡ doings.Signalling condition → ⊥
-not_signal doing block from condition is also = cc (sym is ∙ also)
+-- ---- a note of a plan
 
 -- a note of a block fits, since the plan does
 some_note : (monitor : MonitorParts) (all : List (List Note)) (block from : ℕ) (note : Note) → All (FitsNotes monitor) all → slice_get (unwrap_or (slice_get all block) []) from ≡ Some note → FitsNote monitor note
@@ -132,12 +118,5 @@ some_note monitor (notes ∷ all) (suc block) from note fits is = some_note moni
 
 pub next_fits : (monitor : MonitorParts) (plan : Plan) (positions : List Position) (client : ℕ) (next : Next) → IsMonitor monitor → FitsPlan monitor plan → IsNext plan positions client next → next.note.tested ≡ true → CanTest monitor next.note
 next_fits monitor plan positions client next rule fits is tested =
-    let source = is.source tested in
+    let source = is.first.source tested in
     can_test monitor next.note rule (some_note monitor plan.notes source.0 source.1 next.note fits.each source.2) tested
-
-pub next_of_own : (plan : Plan) (positions : List Position) (client block from : ℕ) (one : Position) → client < length positions → one ≡ get_or positions client one → one.doing ≡ doings.Notifying block from
-    → (found : Option Next) → MatchOption found (length (notes_at plan block) ≤ from) (λ next. IsNoteOf plan block from next)
-    → MatchOption found (HasNoNext plan positions client) (λ next. IsNext plan positions client next)
-next_of_own plan positions client block from one within is doing None place =
-    next_none plan positions client one within is (own_beyond plan one.doing block from doing place) (λ condition also. not_signal one.doing block from condition doing also)
-next_of_own plan positions client block from one within is doing (Some next) told = next_own plan positions client block from one next within is doing told.note told.rest

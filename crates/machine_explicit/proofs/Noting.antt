@@ -9,13 +9,14 @@ use Rattle.std.proofs.lemmas.Bool.{true≢false}
 use Rattle.machine_events.specs.declared.plan.Note.{Note}
 use Rattle.machine_events.specs.declared.event.Event.TheVariants as events
 use Rattle.machine_events.specs.declared.log.Entry.{Entry}
-use Rattle.machine_events.specs.Configurations.{System, Phase, Standing}
+use Rattle.machine_events.specs.declared.event.Stage.{Stage}
+use Rattle.machine_events.specs.Configurations.{System, Standing}
 use Rattle.machine_events.specs.Configurations.{Configuration, StandsAt, put}
-use Rattle.machine_events.specs.Configurations.Phase.{Waiting, Woken, Notifying}
+use Rattle.machine_events.specs.declared.event.Stage.TheVariants.{Waiting, Woken, Notifying}
 use Rattle.machine_events.specs.Events.{Wakes, NoneWaits, IsEvent, fires, wake_all}
 use Rattle.machine_events.specs.Logs.{IsChosen}
 use Rattle.machine_events.specs.Logs.IsNotified.{all_made, one_made}
-use Rattle.machine_events.proofs.Standings.{put_same, put_length, woken_length, one_place, one_phase, stands_within, apart, stays, unwoken_stays}
+use Rattle.machine_events.proofs.Standings.{put_same, put_length, woken_length, one_place, one_stage, stands_within, apart, stays, unwoken_stays}
 use Rattle.machine_explicit.specs.declared.notes.Next.{Next}
 use Rattle.machine_explicit.specs.Machines.{Machine, Happened}
 use Rattle.machine_explicit.specs.inner.Waiting.{KeepsWaits, HasNote, IsNotifying, IsFirst, IsFired, IsComing, IsTarget, Passes, IsChosenBy, MadeNote, MadeNoteOf, MadeNotesOf, MadeSome, AreMaking, CountsNotes, AreBits, WokeThese}
@@ -33,18 +34,18 @@ chosen_of since machine note (Some target) names = (note.condition, names.first)
 
 -- ---- who is chosen by what is kept has waited longest
 
-condition_in : Phase → ℕ
+condition_in : Stage (List Note) → ℕ
 condition_in (Waiting condition) = condition
-condition_in phase = 0
+condition_in stage = 0
 
-same_waiting : (condition another : ℕ) → Waiting condition ≡ Waiting another → condition ≡ another
+same_waiting : (condition another : ℕ) → ◌≡◌ {A = Stage (List Note)} (Waiting condition) (Waiting another) → condition ≡ another
 unfolding condition_in
 same_waiting condition another is = ap condition_in is
 
 pub is_chosen : (since : List ℕ) (machine : Machine) (log : List Entry) (target : Option ℕ) → KeepsWaits log machine.system.clients since → IsChosenBy since machine target → IsChosen log machine.now target
 is_chosen since machine log None keeps chosen = tt
 is_chosen since machine log (Some target) keeps (condition, first) = λ place on at.
-    let same = same_waiting on condition (one_phase machine.now.standings target place first.place (Waiting on) (Waiting condition) at first.waits) in
+    let same = same_waiting on condition (one_stage machine.now.standings target place first.place (Waiting on) (Waiting condition) at first.waits) in
     let number = get_or since target 0 - 1 in (
       number,
       keeps.each target number first.within (omega (arith, first.numbered)),
@@ -73,9 +74,9 @@ wakes_length system c note None woken (inl each) = ap length each.becomes ∙ wo
 wakes_length system c note None woken (inr nobody) = ap length nobody.becomes
 wakes_length system c note (Some target) woken (place, one) = ap length one.becomes ∙ put_length c.standings target place (Woken note.condition)
 
-notes_in : Phase → List Note
+notes_in : Stage (List Note) → List Note
 notes_in (Notifying notes) = notes
-notes_in phase = []
+notes_in stage = []
 
 same_notes : (notes others : List Note) → Notifying notes ≡ Notifying others → notes ≡ others
 unfolding notes_in
@@ -91,7 +92,7 @@ one_taken since client now next place notes made at =
     let stands : StandsAt next.now.standings client own_beyond (Notifying notifies.more) = subst (λ (c : Configuration). StandsAt c.standings client own_beyond (Notifying notifies.more)) (sym notifies.becomes)
     (put_same notifies.woken client own_beyond (Notifying notifies.more) within) in
     let same = one_place now.now.standings client place own_beyond (Notifying notes) (Notifying (notifies.note ∷ notifies.more)) at notifies.notifying in
-    let whole = same_notes notes (notifies.note ∷ notifies.more) (one_phase now.now.standings client place own_beyond (Notifying notes) (Notifying (notifies.note ∷ notifies.more)) at notifies.notifying) in
+    let whole = same_notes notes (notifies.note ∷ notifies.more) (one_stage now.now.standings client place own_beyond (Notifying notes) (Notifying (notifies.note ∷ notifies.more)) at notifies.notifying) in
     (notifies.more, subst (λ (one : Place). StandsAt next.now.standings client one (Notifying notifies.more)) (sym same) stands, omega (arith, ap length whole))
 
 pub has_note : (machine : Machine) (client : ℕ) (place : Place) (notes : List Note) → StandsAt machine.now.standings client place (Notifying notes) → 0 < length notes → HasNote machine client
@@ -100,10 +101,10 @@ has_note machine client place (note ∷ more) at some = (place, note, more, at)
 
 -- ---- who waits after a note
 
-note_in : Note → Phase → Note
+note_in : Note → Stage (List Note) → Note
 note_in other (Notifying (note ∷ more)) = note
 note_in other (Notifying []) = other
-note_in other phase = other
+note_in other stage = other
 
 same_first : (note other : Note) (more others : List Note) → Notifying (note ∷ more) ≡ Notifying (other ∷ others) → note ≡ other
 unfolding note_in
@@ -124,7 +125,7 @@ woke_for : (machine next : Machine) (client : ℕ) (place : Place) (note : Note)
 woke_for machine next client place note more target at happened =
     let own_beyond = happened.1.0 in
     let notifies = happened.1.1 in
-    let same = same_first notifies.note note notifies.more more (one_phase machine.now.standings client own_beyond place (Notifying (notifies.note ∷ notifies.more)) (Notifying (note ∷ more)) notifies.notifying at) in
+    let same = same_first notifies.note note notifies.more more (one_stage machine.now.standings client own_beyond place (Notifying (notifies.note ∷ notifies.more)) (Notifying (note ∷ more)) notifies.notifying at) in
     let is : next.now.standings ≡ put notifies.woken client own_beyond (Notifying notifies.more) = ap (λ (c : Configuration). c.standings) notifies.becomes in
     record {
       place = own_beyond;

@@ -10,15 +10,16 @@ use Rattle.machine_events.specs.declared.event.Event.TheVariants as events
 use Rattle.machine_events.specs.declared.log.Entry.{Entry}
 use Rattle.machine_events.specs.declared.log.Outcome.{Outcome}
 use Rattle.machine_events.specs.declared.log.Outcome.TheVariants as outcomes
-use Rattle.machine_events.specs.Configurations.{System, Phase, Standing, Configuration, StandsAt, put, waited_condition}
-use Rattle.machine_events.specs.Configurations.Phase.{Idle, Entering, Waiting}
-use Rattle.machine_events.specs.Configurations.Phase.{Woken, Inside, Notifying}
+use Rattle.machine_events.specs.declared.plan.Note.{Note}
+use Rattle.machine_events.specs.declared.event.Stage.{Stage}
+use Rattle.machine_events.specs.Configurations.{System, Standing, Configuration, StandsAt, put, waited_condition}
+use Rattle.machine_events.specs.declared.event.Stage.TheVariants.{Idle, Entering, Waiting, Woken, Inside, Notifying}
 use Rattle.machine_events.specs.Events.{Locks, Waits, StepsInside, Runs}
 use Rattle.machine_events.specs.Events.{Refuses, Unlocks, notes_after}
 use Rattle.machine_events.specs.Logs.{IsNotified, IsBegun, IsSection, entry_at}
 use Rattle.machine_events.specs.Logs.IsSection.{waited, refused, replied}
 use Rattle.machine_events.proofs.Standings.{put_same, put_length, one_place}
-use Rattle.machine_events.proofs.Standings.{one_phase, stands_within}
+use Rattle.machine_events.proofs.Standings.{one_stage, stands_within}
 use Rattle.machine_explicit.specs.Machines.{Machine, Happened}
 use Rattle.machine_explicit.specs.inner.Waiting.{IsSettled, NoneEnters, Started, KeepsWaits, AreBits, WasWoken, WokeThese, HasReplied, HasGivenUp, HasWaited, WasRefused, CanUnlock, WentOn, MakesSection, IsNotifying, HasRun, MadeNotes, MadeNotesOf, MakesSectionOf, WaitsOn, WentOnOf}
 use Rattle.machine_explicit.specs.inner.Rings.{line_of, AreLines, HaveLines, LinesAfter}
@@ -42,13 +43,13 @@ inside_at client place begun locked locks =
       | inr woken ↦ stands_within begun.standings client place (Woken woken.0) woken.1
     ]
 
-pub place_read : (standings : List Standing) (client : ℕ) (place at : Place) (phase : Phase) → StandsAt standings client place phase → IsSomeAnd (slice_get standings client) (λ standing. at ≡ standing.place) → place ≡ at
-place_read standings client place at phase stands read =
+pub place_read : (standings : List Standing) (client : ℕ) (place at : Place) (stage : Stage (List Note)) → StandsAt standings client place stage → IsSomeAnd (slice_get standings client) (λ standing. at ≡ standing.place) → place ≡ at
+place_read standings client place at stage stands read =
     sym (subst (λ (o : Option Standing). IsSomeAnd o (λ standing. at ≡ standing.place)) stands read)
 
 -- who waits stays the same while it begins, and takes the lock
-waits_put : (client : ℕ) (place new_place : Place) (phase was : Phase) (before next : List Standing) → next ≡ put before client new_place phase → StandsAt before client place was → IsQuiet was → IsQuiet phase → WaitsAfter Anyone before next
-waits_put client place new_place phase was before next is stood quiet_before quiet = quiet_put Anyone client new_place place phase was before before next is stood quiet_before quiet (nobody_left before before refl)
+waits_put : (client : ℕ) (place new_place : Place) (stage was : Stage (List Note)) (before next : List Standing) → next ≡ put before client new_place stage → StandsAt before client place was → IsQuiet was → IsQuiet stage → WaitsAfter Anyone before next
+waits_put client place new_place stage was before next is stood quiet_before quiet = quiet_put Anyone client new_place place stage was before before next is stood quiet_before quiet (nobody_left before before refl)
 
 begun_waits : (system : System) (client : ℕ) (place : Place) (before begun : Configuration) → IsBegun system client place before begun → WaitsAfter Anyone before.standings begun.standings
 begun_waits system client place before begun (inl begins) = waits_put client place place Entering Idle before.standings begun.standings (ap standings_of begins.becomes) begins.idle idle_is_quiet entering_is_quiet
@@ -187,11 +188,11 @@ gave_up_of client before ran next was unlocked =
 
 -- ---- who waits, in order
 
-lines_put : (since : List ℕ) (system next_system : System) (client : ℕ) (place new_place : Place) (phase was : Phase) (before next : List Standing) (rings : List (List ℕ)) → next_system ≡ system → next ≡ put before client new_place phase
-    → StandsAt before client place was → IsQuiet was → IsQuiet phase → AreLines since system before rings → AreLines since next_system next rings
-lines_put since system next_system client place new_place phase was before next rings same is stood quiet_before quiet are =
-    lines_kept since system next_system before next rings same (ap length is ∙ put_length before client new_place phase)
-    (quiet_put Anyone client new_place place phase was before before next is stood quiet_before quiet (nobody_left before before refl)) are
+lines_put : (since : List ℕ) (system next_system : System) (client : ℕ) (place new_place : Place) (stage was : Stage (List Note)) (before next : List Standing) (rings : List (List ℕ)) → next_system ≡ system → next ≡ put before client new_place stage
+    → StandsAt before client place was → IsQuiet was → IsQuiet stage → AreLines since system before rings → AreLines since next_system next rings
+lines_put since system next_system client place new_place stage was before next rings same is stood quiet_before quiet are =
+    lines_kept since system next_system before next rings same (ap length is ∙ put_length before client new_place stage)
+    (quiet_put Anyone client new_place place stage was before before next is stood quiet_before quiet (nobody_left before before refl)) are
 
 begun_lines : (since : List ℕ) (system : System) (client : ℕ) (place : Place) (before begun : Configuration) (rings : List (List ℕ)) → IsBegun system client place before begun → AreLines since system before.standings rings → AreLines since system begun.standings rings
 begun_lines since system client place before begun rings (inl begins) are =
@@ -236,7 +237,7 @@ waited_lines client condition before next rings has on since are number early =
     let is : next.now.standings ≡ put before.now.standings client place (Waiting its) = ap standings_of waits.becomes in
     let stands : StandsAt next.now.standings client place (Waiting its) = subst (λ (some : List Standing). StandsAt some client place (Waiting its)) (sym is)
     (put_same before.now.standings client place (Waiting its) (stands_within before.now.standings client place Inside waits.inside)) in
-    let same : its ≡ condition = same_waiting its condition (one_phase next.now.standings client place on.0.0 (Waiting its) (Waiting condition) stands on.0.1) in
+    let same : its ≡ condition = same_waiting its condition (one_stage next.now.standings client place on.0.0 (Waiting its) (Waiting condition) stands on.0.1) in
     lines_joined since before.system next.system before.now.standings next.now.standings rings client place condition number has.0 early
     (omega (arith, on.1, are.conditions, ap (λ (s : System). length s.monitor.conditions) has.0)) waits.inside
     (subst (λ (which : ℕ). next.now.standings ≡ put before.now.standings client place (Waiting which)) same is) are
@@ -290,13 +291,13 @@ section_told client at before locked next rings next_rings outcome settled start
 
 -- ---- after a section no one enters
 
-pub entering_woken : (condition : ℕ) → Entering ≡ Woken condition → ⊥
+pub entering_woken : (condition : ℕ) → ◌≡◌ {A = Stage (List Note)} Entering (Woken condition) → ⊥
 entering_woken condition is = cc is
 
-pub none_enters : (client : ℕ) (place : Place) (phase : Phase) (before next : Configuration) → NoneEnters before.standings → CameFrom client before.standings next.standings → StandsAt next.standings client place phase → (Entering ≡ phase → ⊥)
+pub none_enters : (client : ℕ) (place : Place) (stage : Stage (List Note)) (before next : Configuration) → NoneEnters before.standings → CameFrom client before.standings next.standings → StandsAt next.standings client place stage → (Entering ≡ stage → ⊥)
     → NoneEnters next.standings
-none_enters client place phase before next none came at not_entering other others_place enters = elim (cases_eq other client) [
-  | inl same ↦ not_entering (one_phase next.standings client others_place place Entering phase (subst (λ (who : ℕ). StandsAt next.standings who others_place Entering) same enters) at)
+none_enters client place stage before next none came at not_entering other others_place enters = elim (cases_eq other client) [
+  | inl same ↦ not_entering (one_stage next.standings client others_place place Entering stage (subst (λ (who : ℕ). StandsAt next.standings who others_place Entering) same enters) at)
   | inr differs ↦ elim (came other others_place Entering differs enters) [
     | inl stood ↦ none other others_place stood
     | inr woken ↦ entering_woken woken.0 woken.2
@@ -313,7 +314,7 @@ unlocked_settles client place before ran next none unlocks came = record {
       (λ is. entering_idle is);
 }
   where
-    entering_idle : Entering ≡ Idle → ⊥
+    entering_idle : ◌≡◌ {A = Stage (List Note)} Entering Idle → ⊥
     entering_idle is = cc is
 
 pub section_settles : (system : System) (log : List Entry) (before : Configuration) (entry : Entry) (next : Configuration) → NoneEnters before.standings → IsSection system log before entry next → IsSettled next
@@ -328,7 +329,7 @@ section_settles system log before entry next none (waited client place begun loc
       (λ is. entering_waiting condition is);
 }
   where
-    entering_waiting : (condition : ℕ) → Entering ≡ Waiting condition → ⊥
+    entering_waiting : (condition : ℕ) → ◌≡◌ {A = Stage (List Note)} Entering (Waiting condition) → ⊥
     entering_waiting condition is = cc is
 section_settles system log before entry next none (refused client place goes reply state begun locked ran last free begins locks refuses unlocks) =
     unlocked_settles client goes before ran last none unlocks

@@ -3,7 +3,7 @@ use Rattle.std.proofs.Common.{◌≡◌, ℕ, ◌<◌, length, None, Result, Ok,
 use Rattle.machine_events.specs.declared.event.Event.{Event}
 use Rattle.machine_events.specs.declared.event.Event.TheVariants as events
 use Rattle.machine_events.specs.Configurations.{System, Configuration, StandsAt}
-use Rattle.machine_events.specs.Configurations.Phase.{Idle, Entering, Woken, Inside}
+use Rattle.machine_events.specs.declared.event.Stage.TheVariants.{Idle, Entering, Woken, Inside}
 use Rattle.machine_events.specs.Events.{Begins, Locks, WantsLock}
 use Rattle.std.specs.Prelude.{is_err, true, false}
 use Rattle.std.proofs.lemmas.Bool.{true≢false}

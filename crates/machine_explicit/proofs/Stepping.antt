@@ -18,7 +18,8 @@ use Rattle.machine_implicit.specs.Scripted.{FitsCall, FitsScripts, calls_in, cal
 use Rattle.machine_implicit.specs.Steps.{guard_truth, FitsBlock, FitsInputs, IsBlockStep}
 use Rattle.machine_events.specs.Events.{commit_at}
 use Rattle.machine_explicit.specs.declared.position.Position.{Position}
-use Rattle.machine_explicit.specs.inner.Positions.{HasStepped, doing_after}
+use Rattle.machine_events.specs.declared.event.Stage.TheVariants.{Notifying}
+use Rattle.machine_explicit.specs.inner.Positions.{HasStepped, to_come_after}
 use Rattle.machine_implicit.proofs.Fitting.{all_at, calls_fit, is_some_and}
 
 -- a client that tries at its first block
@@ -96,11 +97,11 @@ ran_step monitor clients client place goes call block state next arguments local
 pub has_run : (monitor : MonitorParts) (clients : List Client) (client : ℕ) (before after : Position) (call : Call) (block : ℕ) (state next arguments locals : List Value) (reply : Reply)
     → call_at clients client before.place ≡ Some call → block ≡ block_at monitor call before.place → arguments ≡ call.inputs
     → IsBlockStep monitor block (record { arguments = arguments; locals = before.place.locals }) state reply (record { state = next; locals = locals })
-    → after.place ≡ next_place monitor clients client call before.place reply locals → after.doing ≡ doing_after monitor block reply
+    → after.place ≡ next_place monitor clients client call before.place reply locals → after.stage ≡ Notifying (to_come_after monitor block reply)
     → HasStepped monitor clients client state next before after (commit_at client before.place reply)
 unfolding ran_step
-has_run monitor clients client before after call block state next arguments locals reply at number same step next_is doing = record {
+has_run monitor clients client before after call block state next arguments locals reply at number same step next_is told = record {
   step = ran_step monitor clients client before.place after.place call block state next arguments locals reply at number same step next_is;
   commits = refl;
-  notes = doing ∙ ap (λ which. doing_after monitor which reply) number;
+  notes = told ∙ ap (λ which. Notifying (to_come_after monitor which reply)) number;
 }

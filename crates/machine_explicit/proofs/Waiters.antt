@@ -12,15 +12,15 @@ use Rattle.machine_implicit.specs.Places.{call_at, block_at}
 use Rattle.machine_events.proofs.Facing.{own_guard}
 use Rattle.machine_events.specs.declared.plan.Plan.{Plan}
 use Rattle.machine_events.specs.Configurations.{Standing, StandsAt, System, block_condition, waited_condition}
-use Rattle.machine_events.specs.Configurations.Phase.{Waiting, Notifying}
+use Rattle.machine_events.specs.declared.event.Stage.TheVariants.{Idle, Entering, Waiting, Woken, Inside, Notifying}
 use Rattle.machine_events.specs.Logs.{rests}
-use Rattle.machine_explicit.specs.declared.position.Doing.{Doing}
-use Rattle.machine_explicit.specs.declared.position.Doing.TheVariants as doings
+use Rattle.machine_events.specs.declared.event.Stage.{Stage}
+use Rattle.machine_explicit.specs.declared.position.ToCome.{ToCome}
 use Rattle.machine_explicit.specs.declared.position.Position.{Position}
 use Rattle.machine_explicit.specs.Machines.{Machine, IsMachine}
-use Rattle.machine_explicit.specs.inner.Positions.{phase_of, standing_of, HasNotes}
-use Rattle.machine_explicit.specs.inner.Waiting.{AllRest, doing_rests, position_rests, EachRests, WaitsOn, CountsNotes}
-use Rattle.machine_explicit.proofs.Making.{position_stands, standing_position}
+use Rattle.machine_explicit.specs.inner.Positions.{stage_of, standing_of, HasNotes}
+use Rattle.machine_explicit.specs.inner.Waiting.{AllRest, stage_rests, position_rests, EachRests, WaitsOn, CountsNotes}
+use Rattle.machine_explicit.proofs.Making.{position_stands, standing_position, notifying_made}
 use Rattle.machine_implicit.specs.declared.place.Place.{Place}
 
 -- ---- on which condition a client waits
@@ -52,8 +52,8 @@ waits_on_one machine client place condition rule at =
 
 pub notes_counted : (plan : Plan) (positions : List Position) (client count : ℕ) → HasNotes plan positions client count → CountsNotes (map (standing_of plan) positions) client count
 notes_counted plan positions client count has place notes at =
-    let found = standing_position plan positions client place (Notifying notes) at in
-    has place found.0 notes found.1 found.2
+    let found = notifying_made plan positions client place notes at in
+    ap length (sym found.2) ∙ has place found.0 found.1
 
 -- ---- whether each client rests
 
@@ -68,28 +68,26 @@ rests_more clients positions client one at all rest other another below others_a
 pub rests_not : (clients : List Client) (positions : List Position) (client : ℕ) (one : Position) → slice_get positions client ≡ Some one → position_rests clients client one ≡ false → AllRest clients positions (length positions) → ⊥
 rests_not clients positions client one at moves all = true≢false (sym (all client one (slice_get_within positions client one at) at) ∙ moves)
 
-same_rests : (system : System) (plan : Plan) (client : ℕ) (place : Place) (doing : Doing) → doing_rests system.clients client place doing ≡ rests system client place (phase_of plan doing)
-same_rests system plan client place doings.Idle = refl
-same_rests system plan client place doings.Entering = refl
-same_rests system plan client place (doings.Waiting on) = refl
-same_rests system plan client place (doings.Woken on) = refl
-same_rests system plan client place doings.Inside = refl
-same_rests system plan client place (doings.Notifying block from) = refl
-same_rests system plan client place (doings.Signalling on) = refl
-same_rests system plan client place doings.Unlocking = refl
+same_rests : (system : System) (plan : Plan) (client : ℕ) (place : Place) (kept : Stage ToCome) → stage_rests system.clients client place kept ≡ rests system client place (stage_of plan kept)
+same_rests system plan client place Idle = refl
+same_rests system plan client place Entering = refl
+same_rests system plan client place (Waiting on) = refl
+same_rests system plan client place (Woken on) = refl
+same_rests system plan client place Inside = refl
+same_rests system plan client place (Notifying to_come) = refl
 
 pub each_rests : (machine : Machine) (positions : List Position) → machine.now.standings ≡ map (standing_of machine.system.plan) positions → AllRest machine.system.clients positions (length positions) ↔ EachRests machine
 each_rests machine positions are = (there, back)
   where
     there : AllRest machine.system.clients positions (length positions) → EachRests machine
-    there all client place phase at =
-        let found = standing_position machine.system.plan positions client place phase (subst (λ (some : List Standing). StandsAt some client place phase) are at) in
+    there all client place stage at =
+        let found = standing_position machine.system.plan positions client place stage (subst (λ (some : List Standing). StandsAt some client place stage) are at) in
         ap (rests machine.system client place) (sym found.2)
         ∙ sym (same_rests machine.system machine.system.plan client place found.0)
-        ∙ all client (record { place = place; doing = found.0 }) (slice_get_within positions client (record { place = place; doing = found.0 }) found.1) found.1
+        ∙ all client (record { place = place; stage = found.0 }) (slice_get_within positions client (record { place = place; stage = found.0 }) found.1) found.1
 
     back : EachRests machine → AllRest machine.system.clients positions (length positions)
     back each client one below at =
-        same_rests machine.system machine.system.plan client one.place one.doing
-        ∙ each client one.place (phase_of machine.system.plan one.doing)
-        (subst (λ (some : List Standing). StandsAt some client one.place (phase_of machine.system.plan one.doing)) (sym are) (position_stands machine.system.plan positions client one.place one.doing at))
+        same_rests machine.system machine.system.plan client one.place one.stage
+        ∙ each client one.place (stage_of machine.system.plan one.stage)
+        (subst (λ (some : List Standing). StandsAt some client one.place (stage_of machine.system.plan one.stage)) (sym are) (position_stands machine.system.plan positions client one.place one.stage at))

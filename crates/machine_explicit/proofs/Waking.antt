@@ -5,29 +5,30 @@ use Rattle.std.specs.Int.RustNames.{bit_or}
 use Rattle.std.proofs.lemmas.Bool.{cases_eq, eq-eqb}
 use Rattle.std.proofs.lemmas.Option.{slice_get-map}
 use Rattle.machine_events.specs.declared.plan.Note.{Note}
-use Rattle.machine_events.specs.Configurations.{Phase, Standing, StandsAt, put}
-use Rattle.machine_events.specs.Configurations.Phase.{Idle, Waiting, Woken, Notifying}
+use Rattle.machine_events.specs.declared.event.Stage.{Stage}
+use Rattle.machine_events.specs.Configurations.{Standing, StandsAt, put}
+use Rattle.machine_events.specs.declared.event.Stage.TheVariants.{Idle, Waiting, Woken, Notifying}
 use Rattle.machine_events.specs.Events.{waking, wake_all}
-use Rattle.machine_events.proofs.Standings.{put_same, one_place, one_phase, stands_within, came, apart, stays, unwoken_stays}
+use Rattle.machine_events.proofs.Standings.{put_same, one_place, one_stage, stands_within, came, apart, stays, unwoken_stays}
 use Rattle.machine_explicit.specs.inner.Waiting.{AreBits, WasWoken, WokeThese}
 use Rattle.machine_explicit.proofs.Bits.{bits_alike, no_bits, either_bits}
 use Rattle.machine_explicit.proofs.Lining.{WaitsAfter, Anyone, ButOne, ButOn, IsQuiet, idle_is_quiet, notifying_is_quiet, same_waiting, one_left, each_left}
 use Rattle.machine_implicit.specs.declared.place.Place.{Place}
 
-waiting_woken : (condition another : ℕ) → Waiting condition ≡ Woken another → ⊥
+waiting_woken : (condition another : ℕ) → ◌≡◌ {A = Stage (List Note)} (Waiting condition) (Woken another) → ⊥
 waiting_woken condition another is = cc is
 
-woken_waiting : (condition another : ℕ) → Woken condition ≡ Waiting another → ⊥
+woken_waiting : (condition another : ℕ) → ◌≡◌ {A = Stage (List Note)} (Woken condition) (Waiting another) → ⊥
 woken_waiting condition another is = cc is
 
 -- neither waiting nor woken
-abbrev pub IsCalm : Phase → Type 0
-IsCalm phase = IsQuiet phase × ((condition : ℕ) → Woken condition ≡ phase → ⊥)
+abbrev pub IsCalm : Stage (List Note) → Type 0
+IsCalm stage = IsQuiet stage × ((condition : ℕ) → Woken condition ≡ stage → ⊥)
 
 pub idle_is_calm : IsCalm Idle
 idle_is_calm = (idle_is_quiet, woken_idle)
   where
-    woken_idle : (condition : ℕ) → Woken condition ≡ Idle → ⊥
+    woken_idle : (condition : ℕ) → ◌≡◌ {A = Stage (List Note)} (Woken condition) Idle → ⊥
     woken_idle condition is = cc is
 
 pub notifying_is_calm : (notes : List Note) → IsCalm (Notifying notes)
@@ -38,24 +39,24 @@ notifying_is_calm notes = (notifying_is_quiet notes, woken_notifying)
 
 -- ---- one client is put elsewhere
 
--- a phase that it had neither before nor after
-kept_apart : (client : ℕ) (place was_place : Place) (phase was held : Phase) (before next : List Standing) → next ≡ put before client place phase → StandsAt before client was_place was → (held ≡ phase → ⊥) → (held ≡ was → ⊥)
+-- a stage that it had neither before nor after
+kept_apart : (client : ℕ) (place was_place : Place) (stage was held : Stage (List Note)) (before next : List Standing) → next ≡ put before client place stage → StandsAt before client was_place was → (held ≡ stage → ⊥) → (held ≡ was → ⊥)
     → (other : ℕ) (others_place : Place) → StandsAt next other others_place held ↔ StandsAt before other others_place held
-kept_apart client place was_place phase was held before next is stood not_after not_before other others_place = (there, back)
+kept_apart client place was_place stage was held before next is stood not_after not_before other others_place = (there, back)
   where
     there : StandsAt next other others_place held → StandsAt before other others_place held
-    there at = elim (came before client place phase other others_place held (stands_within before client was_place was stood) (subst (λ (some : List Standing). StandsAt some other others_place held) is at)) [
-      | inl mover ↦ absurd (not_after mover.where_phase)
+    there at = elim (came before client place stage other others_place held (stands_within before client was_place was stood) (subst (λ (some : List Standing). StandsAt some other others_place held) is at)) [
+      | inl mover ↦ absurd (not_after mover.where_stage)
       | inr stays_there ↦ stays_there.stood
     ]
 
     back : StandsAt before other others_place held → StandsAt next other others_place held
     back at = subst (λ (some : List Standing). StandsAt some other others_place held) (sym is)
-        (stays before client place phase other others_place held (apart before client was_place other others_place was held stood at not_before) at)
+        (stays before client place stage other others_place held (apart before client was_place other others_place was held stood at not_before) at)
 
-pub woke_put : (client : ℕ) (place was_place : Place) (bits : ℕ) (phase was : Phase) (before woken next : List Standing) → next ≡ put woken client place phase → StandsAt woken client was_place was → IsCalm was → IsCalm phase
+pub woke_put : (client : ℕ) (place was_place : Place) (bits : ℕ) (stage was : Stage (List Note)) (before woken next : List Standing) → next ≡ put woken client place stage → StandsAt woken client was_place was → IsCalm was → IsCalm stage
     → WokeThese before woken bits → WokeThese before next bits
-woke_put client place was_place bits phase was before woken next is stood calm_before calm these = record {
+woke_put client place was_place bits stage was before woken next is stood calm_before calm these = record {
   waited = λ other others_place condition at. these.waited other others_place condition ((waits condition other others_place).0 at);
   goes = λ other others_place condition at. elim (these.goes other others_place condition at) [
     | inl still ↦ inl ((waits condition other others_place).1 still)
@@ -69,10 +70,10 @@ woke_put client place was_place bits phase was before woken next is stood calm_b
 }
   where
     waits : (condition other : ℕ) (others_place : Place) → StandsAt next other others_place (Waiting condition) ↔ StandsAt woken other others_place (Waiting condition)
-    waits condition = kept_apart client place was_place phase was (Waiting condition) woken next is stood (calm.0 condition) (calm_before.0 condition)
+    waits condition = kept_apart client place was_place stage was (Waiting condition) woken next is stood (calm.0 condition) (calm_before.0 condition)
 
     wakes : (condition other : ℕ) (others_place : Place) → StandsAt next other others_place (Woken condition) ↔ StandsAt woken other others_place (Woken condition)
-    wakes condition = kept_apart client place was_place phase was (Woken condition) woken next is stood (calm.1 condition) (calm_before.1 condition)
+    wakes condition = kept_apart client place was_place stage was (Woken condition) woken next is stood (calm.1 condition) (calm_before.1 condition)
 
 -- who waits stays the same up to there
 pub woken_since : (first before next : List Standing) (bits : ℕ) → WaitsAfter Anyone first before → AreBits (λ client. WasWoken before next client) bits → AreBits (λ client. WasWoken first next client) bits
@@ -89,7 +90,7 @@ woke_nobody before next is = record {
   goes = λ client place condition at. inl (subst (λ (some : List Standing). StandsAt some client place (Waiting condition)) (sym is) at);
   stays = λ client place condition at. subst (λ (some : List Standing). StandsAt some client place (Woken condition)) (sym is) at;
   woken = no_bits (λ client. WasWoken before next client) (λ client found.
-      waiting_woken found.1 found.1 (one_phase before client found.0 found.0 (Waiting found.1) (Woken found.1) found.2 (subst (λ (some : List Standing). StandsAt some client found.0 (Woken found.1)) is found.3)));
+      waiting_woken found.1 found.1 (one_stage before client found.0 found.0 (Waiting found.1) (Woken found.1) found.2 (subst (λ (some : List Standing). StandsAt some client found.0 (Woken found.1)) is found.3)));
 }
 
 pub woke_more : (first second third : List Standing) (bits more : ℕ) → WokeThese first second bits → WokeThese second third more → WokeThese first third (bit_or bits more)
@@ -120,7 +121,7 @@ woken_where : (before next : List Standing) (client : ℕ) (place others_place :
     → StandsAt next client others_place (Woken condition)
 woken_where before next client place others_place on condition stood at woken =
     subst (λ (one : Place). StandsAt next client one (Woken condition)) (one_place before client place others_place (Waiting on) (Waiting condition) stood at)
-    (subst (λ (which : ℕ). StandsAt next client place (Woken which)) (same_waiting on condition (one_phase before client place others_place (Waiting on) (Waiting condition) stood at)) woken)
+    (subst (λ (which : ℕ). StandsAt next client place (Woken which)) (same_waiting on condition (one_stage before client place others_place (Waiting on) (Waiting condition) stood at)) woken)
 
 pub woke_one : (target : ℕ) (place : Place) (on bits : ℕ) (before next : List Standing) → StandsAt before target place (Waiting on) → next ≡ put before target place (Woken on) → AreBits (λ client. client ≡ target) bits → WokeThese before next bits
 woke_one target place on bits before next stood is one = record {
@@ -135,7 +136,7 @@ woke_one target place on bits before next stood is one = record {
     (λ same. (place, on, stood_of client same, woken_of client same)),
     (λ found. elim (cases_eq client target) [
       | inl same ↦ same
-      | inr differs ↦ absurd (waiting_woken found.1 found.1 (one_phase next client found.0 found.0 (Waiting found.1) (Woken found.1) ((after client found.0 found.1).1 found.2 differs) found.3))
+      | inr differs ↦ absurd (waiting_woken found.1 found.1 (one_stage next client found.0 found.0 (Waiting found.1) (Woken found.1) ((after client found.0 found.1).1 found.2 differs) found.3))
     ]),
   )) one;
 }
@@ -155,7 +156,7 @@ woke_one target place on bits before next stood is one = record {
 is_woken : (standings : List Standing) (on client : ℕ) (place : Place) → StandsAt standings client place (Waiting on) → StandsAt (wake_all on standings) client place (Woken on)
 is_woken standings on client place at =
     slice_get-map (waking on) standings client ∙ ap (option_map (waking on)) at
-    ∙ ap (λ (test : Bool). Some (cond test (record { place = place; phase = Woken on }) (record { place = place; phase = Waiting on }))) (eq-eqb on on refl)
+    ∙ ap (λ (test : Bool). Some (cond test (record { place = place; stage = Woken on }) (record { place = place; stage = Waiting on }))) (eq-eqb on on refl)
 
 pub woke_each : (on bits : ℕ) (line : List ℕ) (before next : List Standing) → next ≡ wake_all on before → ((client : ℕ) (place : Place) → StandsAt before client place (Waiting on) → Contains line client)
     → ((client : ℕ) → Contains line client → (place : Place) × StandsAt before client place (Waiting on)) → AreBits (λ client. Contains line client) bits → WokeThese before next bits
@@ -170,7 +171,7 @@ woke_each on bits line before next is all only listed = record {
     (λ has. let stood = only client has in (stood.0, on, stood.1, goes_on client stood.0 stood.1)),
     (λ found. elim (cases_eq found.1 on) [
       | inl same ↦ all client found.0 (subst (λ (which : ℕ). StandsAt before client found.0 (Waiting which)) same found.2)
-      | inr differs ↦ absurd (waiting_woken found.1 found.1 (one_phase next client found.0 found.0 (Waiting found.1) (Woken found.1) ((after client found.0 found.1).1 found.2 differs) found.3))
+      | inr differs ↦ absurd (waiting_woken found.1 found.1 (one_stage next client found.0 found.0 (Waiting found.1) (Woken found.1) ((after client found.0 found.1).1 found.2 differs) found.3))
     ]),
   )) listed;
 }

@@ -1,17 +1,16 @@
 -- What contracts see of the event machine.
-use Rattle.std.specs.Prelude.{◌≡◌, List, Result, MatchResult}
+use Rattle.std.specs.Prelude.{◌≡◌, ℕ, List, length, Result, MatchResult}
 use Rattle.lang_monitor.specs.MonitorParts.{MonitorParts}
 use Rattle.machine_implicit.specs.declared.script.Client.{Client}
 use Rattle.machine_implicit.specs.Runs.{Ends}
 use Rattle.machine_events.specs.declared.plan.Plan.{Plan}
 use Rattle.machine_events.specs.declared.event.Event.{Event}
+use Rattle.machine_events.specs.declared.plan.Note.{Note}
 use Rattle.machine_events.specs.declared.event.Stage.{Stage}
-use Rattle.machine_events.specs.declared.event.Stage.TheVariants as stages
 use Rattle.machine_events.specs.Counts.{IsLawfulByCounting}
-use Rattle.machine_events.specs.Configurations.{System, Phase, Configuration, initial, system_under}
+use Rattle.machine_events.specs.Configurations.{System, Configuration, initial, system_under}
 use Rattle.machine_events.specs.Configurations.{situation_of}
-use Rattle.machine_events.specs.Configurations.Phase.{Idle, Entering, Waiting}
-use Rattle.machine_events.specs.Configurations.Phase.{Woken, Inside, Notifying}
+use Rattle.machine_events.specs.Stages.{map_stage}
 use Rattle.machine_events.specs.Events.{IsEvent}
 use Rattle.machine_implicit.specs.Scripted.{AreClients}
 use Rattle.machine_events.specs.Pending.{IsSystem, IsSound, IsCovered, WakePending, IsStuck}
@@ -68,11 +67,6 @@ abbrev pub Steps : {E : Type 0} → Event → Machine → Machine → Result (Un
 Steps event before next result =
     MatchResult result (λ _. Happened event before next) (λ _. Refused event before next)
 
--- where a client is, without the notes that are to come
-abbrev pub stage_of : Phase → Stage
-stage_of Idle = stages.Idle
-stage_of Entering = stages.Entering
-stage_of (Waiting condition) = stages.Waiting condition
-stage_of (Woken condition) = stages.Woken condition
-stage_of Inside = stages.Inside
-stage_of (Notifying notes) = stages.Notifying
+-- a stage as it is shown: with how many notes are to come
+abbrev pub shown_stage : Stage (List Note) → Stage ℕ
+shown_stage stage = map_stage length stage

@@ -12,9 +12,11 @@ use Rattle.machine_events.specs.declared.plan.Plan.{Plan}
 use Rattle.machine_events.specs.declared.log.Entry.{Entry}
 use Rattle.machine_events.specs.declared.log.Outcome.TheVariants as outcomes
 use Rattle.machine_events.specs.Counts.{IsLawfulByCounting}
-use Rattle.machine_events.specs.Configurations.{System, Phase, Standing, Configuration, StandsAt}
+use Rattle.machine_events.specs.declared.plan.Note.{Note}
+use Rattle.machine_events.specs.declared.event.Stage.{Stage}
+use Rattle.machine_events.specs.Configurations.{System, Standing, Configuration, StandsAt}
 use Rattle.machine_events.specs.Configurations.{initial, situation_of, system_under}
-use Rattle.machine_events.specs.Configurations.Phase.{Idle, Waiting, Woken}
+use Rattle.machine_events.specs.declared.event.Stage.TheVariants.{Idle, Waiting, Woken}
 use Rattle.machine_events.specs.Events.{WakesSpuriously}
 use Rattle.machine_events.specs.Pending.{IsSystem, IsSound, IsCovered, WakePending}
 use Rattle.machine_events.specs.Logs.{IsSection, IsLegal, rests, is_spurious_entry, entry_at}
@@ -61,11 +63,11 @@ pub record IsFree (machine : FreeMachine) : Type 0 where
   pub covered : HasLawful machine.system → IsCovered machine.system machine.now
 
 -- between sections a client is idle, waits, or was woken
-abbrev pub is_between : Phase → Bool
+abbrev pub is_between : Stage (List Note) → Bool
 is_between Idle = true
 is_between (Waiting condition) = true
 is_between (Woken condition) = true
-is_between phase = false
+is_between stage = false
 
 -- What holds of every such monitor: its rule, what its configuration keeps whatever the plan, where
 -- its clients are between sections, that under a lawful plan a wake-up is pending, that the replies
@@ -73,8 +75,8 @@ is_between phase = false
 pub record HoldsAlways (machine : FreeMachine) : Type 0 where
   pub rule : IsFree machine
   pub sound : IsSound machine.system machine.now
-  pub between : (client : ℕ) (place : Place) (phase : Phase)
-      → StandsAt machine.now.standings client place phase → is_between phase ≡ true
+  pub between : (client : ℕ) (place : Place) (stage : Stage (List Note))
+      → StandsAt machine.now.standings client place stage → is_between stage ≡ true
   pub pending : HasLawful machine.system → WakePending machine.system machine.now
   pub run : IsRun machine.system.monitor machine.system.clients (commits_of machine.log)
       (situation_of machine.now)
@@ -106,19 +108,20 @@ pub record AddsEntry (before : FreeMachine) (entry : Entry) (next : FreeMachine)
 -- the client waits, or is idle with no call left
 abbrev pub Rests : FreeMachine → ℕ → Type 0
 Rests machine client =
-    (place : Place) × (phase : Phase) × StandsAt machine.now.standings client place phase
-    × (rests machine.system client place phase ≡ true)
+    (place : Place) × (stage : Stage (List Note))
+    × StandsAt machine.now.standings client place stage
+    × (rests machine.system client place stage ≡ true)
 
 -- a client can make a section where it is idle with a call left, or was woken
-abbrev pub can_start : System → ℕ → Place → Phase → Bool
+abbrev pub can_start : System → ℕ → Place → Stage (List Note) → Bool
 can_start system client place Idle = nat_lt place.past (length (calls_of system.clients client))
 can_start system client place (Woken condition) = true
-can_start system client place phase = false
+can_start system client place stage = false
 
 -- whether a client is there and can make a section
 abbrev pub is_ready : FreeMachine → ℕ → Bool
 is_ready machine client =
-    option_map_or (λ standing. can_start machine.system client standing.place standing.phase)
+    option_map_or (λ standing. can_start machine.system client standing.place standing.stage)
     (slice_get machine.now.standings client) false
 
 -- the client made a section, and its entry is the last of the log now

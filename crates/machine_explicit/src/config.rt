@@ -8,11 +8,11 @@ ghost use Rattle.machine_implicit.specs.declared.place.Place.{Place};
 ghost use Rattle.machine_implicit.specs.Runs.{first_places};
 ghost use Rattle.machine_implicit.specs.Scripted.{FitsScripts, all_blocks};
 ghost use Rattle.machine_events.specs.Configurations.{StandsAt};
-ghost use Rattle.machine_events.specs.Configurations.Phase.{Waiting};
+ghost use Rattle.machine_events.specs.declared.event.Stage.TheVariants.{Waiting};
 ghost use Rattle.machine_events.specs.Events.{fires};
 ghost use Rattle.machine_events.specs.Plans.{FitsPlan};
 ghost use Rattle.machine_explicit.specs.Machines.{Happened, IsMachine, KeepsWakeUps, Steps};
-ghost use Rattle.machine_explicit.specs.Machines.{opened, stage_of};
+ghost use Rattle.machine_explicit.specs.Machines.{opened, shown_stage};
 ghost use Rattle.machine_explicit.specs.inner.Positions.{idle_position};
 ghost use Rattle.machine_explicit.specs.Sections.{can_start};
 ghost use Rattle.machine_explicit.specs.inner.Waiting.{CanUnlock, Comes, CountsNotes, EachRests};
@@ -22,10 +22,8 @@ ghost use Rattle.machine_explicit.specs.inner.Waiting.{NotStarted, Passes};
 ghost use Rattle.machine_explicit.specs.inner.Waiting.{Started, WaitsOn, WasRefused, WentIn};
 
 use super::calls::{all_blocks, calls, condition_of, is_first_try};
-use super::notes::{Next, count_notes, finished, fires, next_note};
-use super::position::{
-    Doing, Position, idle, inside, ready, some_waits, waiting, waiting_on, wake_all,
-};
+use super::notes::{Next, count_notes, finished, fires, next_note, shown};
+use super::position::{Position, idle, inside, ready, some_waits, waiting, waiting_on, wake_all};
 use super::steps::{refuse_step, run_step};
 use super::waiting::{all_rest, starts};
 use lang_monitor::Monitor;
@@ -191,11 +189,11 @@ impl Config {
         self.owner
     }
 
-    /// The stage of a client.
-    pub fn stage(&self, client: u32) -> Stage
+    /// The stage of a client; where it is notifying, with how many notes are to come.
+    pub fn stage(&self, client: u32) -> Stage<usize>
         requires { client < length self.now.system.clients }
         ensures stage { IsSomeAnd (slice_get self.now.now.standings client)
-            (λ standing. result ≡ stage_of standing.phase) }
+            (λ standing. result ≡ shown_stage standing.stage) }
         ensures rule { IsMachine self.now }
         ensures wakes { KeepsWakeUps self.now }
     {
@@ -205,22 +203,13 @@ impl Config {
         stage
     }
 
-    /// The stage of a client, by what it does.
-    fn stage_now(&self, client: u32) -> Stage
+    /// The stage of a client, as its position has it.
+    fn stage_now(&self, client: u32) -> Stage<usize>
         requires { client < length self.now.system.clients }
         ensures { IsSomeAnd (slice_get self.now.now.standings client)
-            (λ standing. result ≡ stage_of standing.phase) }
+            (λ standing. result ≡ shown_stage standing.stage) }
     {
-        match self.positions[client as usize].doing {
-            Doing::Idle => Stage::Idle,
-            Doing::Entering => Stage::Entering,
-            Doing::Waiting(condition) => Stage::Waiting(condition),
-            Doing::Woken(condition) => Stage::Woken(condition),
-            Doing::Inside => Stage::Inside,
-            Doing::Notifying { block: _, from: _ } => Stage::Notifying,
-            Doing::Signalling { condition: _ } => Stage::Notifying,
-            Doing::Unlocking => Stage::Notifying,
-        }
+        shown(&self.plan, self.positions[client as usize].stage)
     }
 
     /// The commits so far, in order. They are a run of the implicit machine to the state and the
@@ -286,7 +275,7 @@ impl Config {
     pub(crate) fn starts(&self, client: u32) -> bool
         requires { client < length self.now.system.clients }
         ensures { IsSomeAnd (slice_get self.now.now.standings client)
-            (λ standing. result ≡ can_start self.now.system client standing.place standing.phase) }
+            (λ standing. result ≡ can_start self.now.system client standing.place standing.stage) }
     {
         starts(&self.scripts, client, &self.positions[client as usize])
     }
@@ -347,7 +336,7 @@ impl Config {
             return Err(NotEnabled);
         }
         self.owner = Some(client);
-        self.positions[client as usize].doing = Doing::Inside;
+        self.positions[client as usize].stage = Stage::Inside;
         Ok(())
     }
 
@@ -361,7 +350,7 @@ impl Config {
         if place.past as usize >= calls(&self.scripts, client).len() {
             return Err(NotEnabled);
         }
-        self.positions[client as usize].doing = Doing::Entering;
+        self.positions[client as usize].stage = Stage::Entering;
         Ok(())
     }
 
@@ -376,7 +365,7 @@ impl Config {
             return Err(NotEnabled);
         };
         self.owner = Some(client);
-        self.positions[client as usize].doing = Doing::Inside;
+        self.positions[client as usize].stage = Stage::Inside;
         Ok(())
     }
 
@@ -447,7 +436,7 @@ impl Config {
         let call = &calls(&self.scripts, client)[position.place.past as usize];
         let block = block_number(&self.monitor, call, &position.place);
         let condition = condition_of(&self.monitor, block);
-        position.doing = Doing::Waiting(condition);
+        position.stage = Stage::Waiting(condition);
         self.owner = None;
         condition
     }
@@ -488,7 +477,7 @@ impl Config {
         requires nobody { Passes self.old client }
         ensures { Happened (Event.Notify client None) self.old self.new }
     {
-        self.positions[client as usize].doing = next.rest;
+        self.positions[client as usize].stage = Stage::Notifying(next.rest);
     }
 
     /// A client makes its first note to come, a broadcast that fires: it wakes each client that
@@ -500,7 +489,7 @@ impl Config {
         ensures { Happened (Event.Notify client None) self.old self.new }
     {
         wake_all(&mut self.positions, next.note.condition);
-        self.positions[client as usize].doing = next.rest;
+        self.positions[client as usize].stage = Stage::Notifying(next.rest);
     }
 
     /// A client makes its first note to come, a signal that fires: it wakes this client, which
@@ -513,8 +502,8 @@ impl Config {
             × StandsAt self.old.now.standings target place (Waiting next.note.condition) }
         ensures { Happened (Event.Notify client (Some target)) self.old self.new }
     {
-        self.positions[target as usize].doing = Doing::Woken(next.note.condition);
-        self.positions[client as usize].doing = next.rest;
+        self.positions[target as usize].stage = Stage::Woken(next.note.condition);
+        self.positions[client as usize].stage = Stage::Notifying(next.rest);
     }
 
     /// A note of a client that names no target: it wakes each client that waits, or nobody.
@@ -578,7 +567,7 @@ impl Config {
         ensures { Happened (Event.Unlock client) self.old self.new }
     {
         self.owner = None;
-        self.positions[client as usize].doing = Doing::Idle;
+        self.positions[client as usize].stage = Stage::Idle;
     }
 
     /// A client that waits is woken by nothing.
@@ -588,7 +577,7 @@ impl Config {
         let Some((_place, condition)) = waiting(&self.positions, client) else {
             return Err(NotEnabled);
         };
-        self.positions[client as usize].doing = Doing::Woken(condition);
+        self.positions[client as usize].stage = Stage::Woken(condition);
         Ok(())
     }
 }
@@ -607,7 +596,7 @@ fn all_idle(
     for client in 0..clients.len() {
         positions.push(Position {
             place: place_at_start(monitor, clients, client, 0),
-            doing: Doing::Idle,
+            stage: Stage::Idle,
         })?;
     }
     Ok(positions)

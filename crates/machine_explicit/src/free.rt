@@ -5,7 +5,7 @@ ghost use Rattle.std.specs.Prelude.{length, slice_get};
 ghost use Rattle.machine_implicit.specs.Scripted.{AreClients, FitsScripts, all_blocks};
 ghost use Rattle.machine_events.specs.Plans.{FitsPlan};
 ghost use Rattle.machine_events.specs.Logs.{IsClosed};
-ghost use Rattle.machine_explicit.specs.Machines.{stage_of};
+ghost use Rattle.machine_explicit.specs.Machines.{shown_stage};
 ghost use Rattle.machine_explicit.specs.Sections.{MOST_SPURIOUS, HoldsAlways, HasEnded, Sections};
 ghost use Rattle.machine_explicit.specs.Sections.{WakesByNothing, is_ready, opened_free, room_of};
 ghost use Rattle.machine_explicit.specs.inner.Waiting.{stage_condition};
@@ -210,10 +210,10 @@ impl FreeMonitor {
     }
 
     /// The stage of a client: idle, waiting or woken.
-    pub fn stage(&self, client: u32) -> Stage
+    pub fn stage(&self, client: u32) -> Stage<usize>
         requires { client < length self.now.system.clients }
         ensures stage { IsSomeAnd (slice_get self.now.now.standings client)
-            (λ standing. result ≡ stage_of standing.phase) }
+            (λ standing. result ≡ shown_stage standing.stage) }
         ensures always { HoldsAlways self.now }
     {
         self.config.stage(client)
@@ -280,7 +280,7 @@ fn room(monitor: &Monitor, clients: &[Client], extra: u64) -> usize
 }
 
 /// The condition on which a client at this stage waits.
-fn waited(stage: Stage) -> Option<u32>
+fn waited(stage: Stage<usize>) -> Option<u32>
     ensures { result ≡ stage_condition stage }
 {
     match stage {

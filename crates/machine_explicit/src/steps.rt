@@ -7,9 +7,10 @@ ghost use Rattle.machine_implicit.specs.Scripted.{AreClients, FitsScripts};
 ghost use Rattle.machine_implicit.specs.Steps.{FitsState};
 ghost use Rattle.machine_explicit.specs.inner.Positions.{HasStepped};
 
-use super::notes::doing_after;
-use super::position::{Doing, Position};
+use super::notes::to_come_after;
+use super::position::{Position, ToCome};
 use lang_monitor::Monitor;
+use machine_events::Stage;
 use machine_implicit::{
     Client, Commit, Reply, State, begin_call, block_number, go_to_next, run_block,
 };
@@ -49,7 +50,7 @@ pub fn run_step(
         reply,
     };
     go_to_next(monitor, clients, client as usize, call, reply, place);
-    position.doing = doing_after(monitor, block, reply);
+    position.stage = Stage::Notifying(to_come_after(monitor, block, reply));
     commit
 }
 
@@ -83,6 +84,6 @@ pub fn refuse_step(
         position.place.past + 1,
         &mut position.place,
     );
-    position.doing = Doing::Unlocking;
+    position.stage = Stage::Notifying(ToCome::Nothing);
     commit
 }

@@ -6,7 +6,8 @@ ghost use Rattle.machine_explicit.specs.inner.Waiting.{AllRest};
 ghost use Rattle.machine_explicit.specs.inner.Waiting.{position_rests, position_starts};
 
 use super::calls::calls;
-use super::position::{Doing, Position};
+use super::position::Position;
+use machine_events::Stage;
 use machine_implicit::Scripts;
 
 /// Whether each client waits, or is idle with no call left.
@@ -26,9 +27,9 @@ pub fn all_rest(scripts: &Scripts, positions: &[Position]) -> bool
 pub fn starts(scripts: &Scripts, client: u32, one: &Position) -> bool
     ensures { result ≡ position_starts scripts.now client one.now }
 {
-    match one.doing {
-        Doing::Woken(_) => true,
-        Doing::Idle => (one.place.past as usize) < calls(scripts, client).len(),
+    match one.stage {
+        Stage::Woken(_) => true,
+        Stage::Idle => (one.place.past as usize) < calls(scripts, client).len(),
         _ => false,
     }
 }
@@ -37,9 +38,9 @@ pub fn starts(scripts: &Scripts, client: u32, one: &Position) -> bool
 fn rests(scripts: &Scripts, client: u32, one: &Position) -> bool
     ensures { result ≡ position_rests scripts.now client one.now }
 {
-    match one.doing {
-        Doing::Waiting(_) => true,
-        Doing::Idle => one.place.past as usize >= calls(scripts, client).len(),
+    match one.stage {
+        Stage::Waiting(_) => true,
+        Stage::Idle => one.place.past as usize >= calls(scripts, client).len(),
         _ => false,
     }
 }

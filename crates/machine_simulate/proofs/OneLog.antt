@@ -9,9 +9,11 @@ use Rattle.machine_implicit.specs.Rounds.{asked_before}
 use Rattle.machine_implicit.proofs.OneRun.{asked_once, which}
 use Rattle.machine_implicit.specs.declared.place.Place.{Place}
 use Rattle.machine_events.specs.declared.log.Entry.{Entry}
-use Rattle.machine_events.specs.Configurations.{System, Phase, Configuration, put}
-use Rattle.machine_events.specs.Configurations.Phase.{Waiting, Woken}
-use Rattle.machine_events.proofs.Standings.{one_place, one_phase}
+use Rattle.machine_events.specs.declared.plan.Note.{Note}
+use Rattle.machine_events.specs.declared.event.Stage.{Stage}
+use Rattle.machine_events.specs.Configurations.{System, Configuration, put}
+use Rattle.machine_events.specs.declared.event.Stage.TheVariants.{Waiting, Woken}
+use Rattle.machine_events.proofs.Standings.{one_place, one_stage}
 use Rattle.machine_explicit.specs.Sections.{FreeMachine, AddsEntry, WokenByNothing, spurious_entry}
 use Rattle.machine_simulate.specs.Schedules.{Acts, Drawing, IsAt, IsByRounds, IsDrawn, IsDrawnFrom, IsNextReady, IsTurn, ready, waiting, wakes_at}
 use Rattle.machine_simulate.specs.Schedules.IsByRounds.{ended, acted}
@@ -34,11 +36,11 @@ acts_once client before one other acts also =
     let same = one_section before.system before.log before.now client acts.0.entry also.0.entry one.now other.now acts.1.whose also.1.whose acts.1.made also.1.made in
     same_after before one other acts.0.entry also.0.entry acts.1.appends also.1.appends same.entries same.configurations
 
-condition_in : Phase → ℕ
+condition_in : Stage (List Note) → ℕ
 condition_in (Waiting condition) = condition
-condition_in phase = 0
+condition_in stage = 0
 
-same_condition : (condition other : ℕ) → Waiting condition ≡ Waiting other → condition ≡ other
+same_condition : (condition other : ℕ) → ◌≡◌ {A = Stage (List Note)} (Waiting condition) (Waiting other) → condition ≡ other
 unfolding condition_in
 same_condition condition other same = ap condition_in same
 
@@ -48,7 +50,7 @@ wakes_once client before one other wakes also =
     let there = also.wakes.waits in
     let places = one_place before.now.standings client wakes.place also.place (Waiting wakes.condition) (Waiting also.condition) at there in
     let conditions =
-    same_condition wakes.condition also.condition (one_phase before.now.standings client wakes.place also.place (Waiting wakes.condition) (Waiting also.condition) at there) in
+    same_condition wakes.condition also.condition (one_stage before.now.standings client wakes.place also.place (Waiting wakes.condition) (Waiting also.condition) at there) in
     let becomes = λ (place : Place) (condition : ℕ). record before.now { standings = put before.now.standings client place (Woken condition) } in
     same_after before one other (spurious_entry client wakes.place) (spurious_entry client also.place) wakes.appends also.appends
     (ap (spurious_entry client) places) (wakes.wakes.becomes ∙ ap₂ becomes places conditions ∙ sym also.wakes.becomes)

@@ -19,14 +19,14 @@ use Rattle.machine_implicit.proofs.OneRun.{which}
 use Rattle.machine_events.specs.declared.plan.Note.{Note}
 use Rattle.machine_events.specs.declared.log.Entry.{Entry}
 use Rattle.machine_events.specs.declared.log.Outcome.TheVariants as outcomes
-use Rattle.machine_events.specs.Configurations.{System, Phase, Standing, Configuration, StandsAt, put, guard_of, waited_condition}
-use Rattle.machine_events.specs.Configurations.Phase.{Idle, Entering, Waiting}
-use Rattle.machine_events.specs.Configurations.Phase.{Woken, Inside, Notifying}
+use Rattle.machine_events.specs.declared.event.Stage.{Stage}
+use Rattle.machine_events.specs.Configurations.{System, Standing, Configuration, StandsAt, put, guard_of, waited_condition}
+use Rattle.machine_events.specs.declared.event.Stage.TheVariants.{Idle, Entering, Waiting, Woken, Inside, Notifying}
 use Rattle.machine_events.specs.Events.{Locks, Waits, StepsInside, Runs, Refuses, Unlocks, Notifies, Wakes, WakesOne, WakesEach, WakesNobody, commit_at, notes_after}
 use Rattle.machine_events.specs.Logs.{IsBegun, IsChosen, IsFirstWaiter, IsNotified, IsSection, AreWoken, WaitsSince, entry_at, says_waits}
 use Rattle.machine_events.specs.Logs.IsNotified.{all_made, one_made}
 use Rattle.machine_events.specs.Logs.IsSection.{waited, refused, replied}
-use Rattle.machine_events.proofs.Standings.{one_place, one_phase}
+use Rattle.machine_events.proofs.Standings.{one_place, one_stage}
 use Rattle.machine_simulate.proofs.OneStep.{steps_once}
 
 -- ---- it begins or goes on, and locks
@@ -56,10 +56,10 @@ locked_once system client place also_place before begun start locked taken begin
     | inl again ↦
         let places = one_place before.standings client place also_place Idle Idle idle.idle again.idle in
         locks_once client place also_place begun start locked taken places (idle.becomes ∙ ap (λ (one : Place). entering client one before) places ∙ sym again.becomes) one two
-    | inr woken ↦ absurd (let wrong = one_phase before.standings client place also_place Idle (Woken woken.0.0) idle.idle woken.0.1 in cc)
+    | inr woken ↦ absurd (let wrong = one_stage before.standings client place also_place Idle (Woken woken.0.0) idle.idle woken.0.1 in cc)
   ]
   | inr woken ↦ elim goes [
-    | inl idle ↦ absurd (let wrong = one_phase before.standings client place also_place (Woken woken.0.0) Idle woken.0.1 idle.idle in cc)
+    | inl idle ↦ absurd (let wrong = one_stage before.standings client place also_place (Woken woken.0.0) Idle woken.0.1 idle.idle in cc)
     | inr again ↦
         locks_once client place also_place begun start locked taken (one_place before.standings client place also_place (Woken woken.0.0) (Woken again.0.0) woken.0.1 again.0.1) (woken.1 ∙ sym again.1) one two
   ]
@@ -232,9 +232,9 @@ wakes_once system log c note (Some target) (Some other) woken also chosen one na
 
 -- ---- it makes its notes
 
-notes_in : Phase → List Note
+notes_in : Stage (List Note) → List Note
 notes_in (Notifying notes) = notes
-notes_in phase = []
+notes_in stage = []
 
 same_notes : (notes others : List Note) → Notifying notes ≡ Notifying others → notes ≡ others
 unfolding notes_in
@@ -259,7 +259,7 @@ note_once system log client place also_place c next last target other chosen one
     let places = one_place c.standings client place also_place (Notifying (one.note ∷ one.more)) (Notifying (two.note ∷ two.more)) one.notifying two.notifying in
     let notes =
     same_notes (one.note ∷ one.more) (two.note ∷ two.more)
-    (one_phase c.standings client place also_place (Notifying (one.note ∷ one.more)) (Notifying (two.note ∷ two.more)) one.notifying two.notifying) in
+    (one_stage c.standings client place also_place (Notifying (one.note ∷ one.more)) (Notifying (two.note ∷ two.more)) one.notifying two.notifying) in
     let first = same_first one.note two.note one.more two.more notes in
     let rest = same_rest one.note two.note one.more two.more notes in
     let woken =
@@ -274,7 +274,7 @@ some_or_none : (standings : List Standing) (client : ℕ) (place also_place : Pl
     (more : List Note) → StandsAt standings client place (Notifying [])
     → StandsAt standings client also_place (Notifying (note ∷ more)) → ⊥
 some_or_none standings client place also_place note more none some =
-    let same = same_notes [] (note ∷ more) (one_phase standings client place also_place (Notifying []) (Notifying (note ∷ more)) none some) in cc
+    let same = same_notes [] (note ∷ more) (one_stage standings client place also_place (Notifying []) (Notifying (note ∷ more)) none some) in cc
 
 notified_once : (system : System) (log : List Entry) (client : ℕ) (c last end : Configuration)
     → IsNotified system log client c last → IsNotified system log client c end → last ≡ end

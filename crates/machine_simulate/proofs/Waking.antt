@@ -1,37 +1,38 @@
 -- A client that waits, with an entry left for it, is woken by nothing.
-use Rattle.std.proofs.Common.{◌≡◌, ◌<◌, ℕ, true, false, Option, Some, None, Result, Ok, Err, refl, sym, ap, ◌∙◌, arith}
+use Rattle.std.proofs.Common.{◌≡◌, ◌<◌, ℕ, true, false, Option, Some, None, Result, Ok, Err, refl, sym, ap, ◌∙◌, List, arith}
 use Rattle.std.specs.Prelude.{slice_get, is_err}
 use Rattle.std.specs.Option.{option_map_or}
 use Rattle.std.proofs.lemmas.Bool.{true≢false}
-use Rattle.machine_events.specs.Configurations.{Phase, Standing}
-use Rattle.machine_events.specs.Configurations.Phase.{Idle, Entering, Waiting}
-use Rattle.machine_events.specs.Configurations.Phase.{Woken, Inside, Notifying}
+use Rattle.machine_events.specs.declared.plan.Note.{Note}
+use Rattle.machine_events.specs.declared.event.Stage.{Stage}
+use Rattle.machine_events.specs.Configurations.{Standing}
+use Rattle.machine_events.specs.declared.event.Stage.TheVariants.{Idle, Entering, Waiting, Woken, Inside, Notifying}
 use Rattle.machine_events.specs.Stages.{is_waiting_stage}
 use Rattle.machine_explicit.specs.declared.section.SpuriousFault.{SpuriousFault}
 use Rattle.machine_explicit.specs.declared.section.SpuriousFault.TheVariants as faults
-use Rattle.machine_explicit.specs.Machines.{stage_of}
+use Rattle.machine_explicit.specs.Machines.{shown_stage}
 use Rattle.machine_explicit.specs.Sections.{FreeMachine, IsSpuriousFault, IsWaiting, WakesByNothing, spurious_in}
 use Rattle.machine_simulate.specs.Schedules.{is_waiting}
 
-waiting_phase : (phase : Phase) → is_waiting_stage (stage_of phase) ≡ true
-    → (condition : ℕ) × (phase ≡ Waiting condition)
-waiting_phase Idle is = absurd (true≢false (sym is))
-waiting_phase Entering is = absurd (true≢false (sym is))
-waiting_phase (Waiting condition) is = (condition, refl)
-waiting_phase (Woken condition) is = absurd (true≢false (sym is))
-waiting_phase Inside is = absurd (true≢false (sym is))
-waiting_phase (Notifying notes) is = absurd (true≢false (sym is))
+waiting_stage : (stage : Stage (List Note)) → is_waiting_stage (shown_stage stage) ≡ true
+    → (condition : ℕ) × (stage ≡ Waiting condition)
+waiting_stage Idle is = absurd (true≢false (sym is))
+waiting_stage Entering is = absurd (true≢false (sym is))
+waiting_stage (Waiting condition) is = (condition, refl)
+waiting_stage (Woken condition) is = absurd (true≢false (sym is))
+waiting_stage Inside is = absurd (true≢false (sym is))
+waiting_stage (Notifying notes) is = absurd (true≢false (sym is))
 
 waits : (machine : FreeMachine) (client : ℕ) → is_waiting machine client ≡ true
     → IsWaiting machine.now.standings client
 waits machine client is = by (slice_get machine.now.standings client) refl is
   where
     by : (found : Option Standing) → slice_get machine.now.standings client ≡ found
-        → option_map_or (λ (standing : Standing). is_waiting_stage (stage_of standing.phase)) found false ≡ true → IsWaiting machine.now.standings client
+        → option_map_or (λ (standing : Standing). is_waiting_stage (shown_stage standing.stage)) found false ≡ true → IsWaiting machine.now.standings client
     by None at waiting = absurd (true≢false (sym waiting))
     by (Some standing) at waiting =
-        let which = waiting_phase standing.phase waiting in
-        (standing.place, which.0, at ∙ ap (λ (phase : Phase). Some (record { place = standing.place; phase = phase })) which.1)
+        let which = waiting_stage standing.stage waiting in
+        (standing.place, which.0, at ∙ ap (λ (stage : Stage (List Note)). Some (record { place = standing.place; stage = stage })) which.1)
 
 no_fault : (machine : FreeMachine) (client : ℕ) (fault : SpuriousFault)
     → IsWaiting machine.now.standings client → spurious_in machine.log < machine.extra

@@ -10,7 +10,7 @@ use Rattle.machine_events.specs.declared.log.Entry.{Entry}
 use Rattle.machine_events.specs.Stages.{is_waiting_stage}
 use Rattle.machine_events.specs.Logs.{IsClosed}
 use Rattle.machine_explicit.specs.declared.section.Section.{Section}
-use Rattle.machine_explicit.specs.Machines.{stage_of}
+use Rattle.machine_explicit.specs.Machines.{shown_stage}
 use Rattle.machine_explicit.specs.Sections.{FreeMachine, MadeSection, WokenByNothing, is_ready}
 
 -- the client makes a section
@@ -42,7 +42,7 @@ pub data IsByRounds : ℕ → FreeMachine → FreeMachine → Type 0 where
 -- whether a client waits
 abbrev pub is_waiting : FreeMachine → ℕ → Bool
 is_waiting machine client =
-    option_map_or (λ standing. is_waiting_stage (stage_of standing.phase))
+    option_map_or (λ standing. is_waiting_stage (shown_stage standing.stage))
     (slice_get machine.now.standings client) false
 
 -- the clients of whom this is true, in file order

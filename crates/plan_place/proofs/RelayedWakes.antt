@@ -17,16 +17,16 @@ use Rattle.machine_events.specs.declared.log.Outcome.{Outcome}
 use Rattle.machine_events.specs.declared.log.Outcome.TheVariants as outcomes
 use Rattle.machine_events.specs.declared.plan.Note.{Note}
 use Rattle.machine_events.specs.declared.plan.Plan.{Plan}
-use Rattle.machine_events.specs.Configurations.{System, Phase, Standing, Configuration, StandsAt, block_condition, system_under}
-use Rattle.machine_events.specs.Configurations.Phase.{Idle, Entering, Waiting}
-use Rattle.machine_events.specs.Configurations.Phase.{Woken, Inside, Notifying}
+use Rattle.machine_events.specs.declared.event.Stage.{Stage}
+use Rattle.machine_events.specs.Configurations.{System, Standing, Configuration, StandsAt, block_condition, system_under}
+use Rattle.machine_events.specs.declared.event.Stage.TheVariants.{Idle, Entering, Waiting, Woken, Inside, Notifying}
 use Rattle.machine_events.specs.Events.{Locks, Notifies, StepsInside, Unlocks, Wakes, notes_after, own_signal}
 use Rattle.machine_events.specs.Logs.{AreWoken, IsBegun, IsNotified, IsSection}
 use Rattle.machine_events.specs.Logs.IsNotified.{all_made, one_made}
 use Rattle.machine_events.specs.Logs.IsSection.{waited, refused, replied}
 use Rattle.machine_events.specs.Plans.{notes_at}
 use Rattle.machine_events.proofs.Sound.{target_apart}
-use Rattle.machine_events.proofs.Standings.{apart, one_phase, put_other, put_same, stands_within, stays, unwoken_stays}
+use Rattle.machine_events.proofs.Standings.{apart, one_stage, put_other, put_same, stands_within, stays, unwoken_stays}
 use Rattle.logic_wp.specs.PlainClaims.{ReadsNone}
 use Rattle.plan_claims.specs.Backing.{reads_none}
 use Rattle.plan_place.specs.Relayed.{WakesAtMostOne, relay_of}
@@ -34,9 +34,9 @@ use Rattle.plan_claims.proofs.Backed.{reads_as_test}
 use Rattle.plan_place.proofs.NotesOn.{NoneOn, OnceOn, once_made}
 use Rattle.plan_place.proofs.RelayedPlans.{each_made, made_on, of_each, on_theirs}
 
--- ---- phases
+-- ---- stages
 
-named : Phase → ℕ
+named : Stage (List Note) → ℕ
 named Idle = 0
 named Entering = 0
 named (Waiting condition) = condition
@@ -44,7 +44,7 @@ named (Woken condition) = condition
 named Inside = 0
 named (Notifying notes) = 0
 
-to_come : Phase → List Note
+to_come : Stage (List Note) → List Note
 to_come Idle = []
 to_come Entering = []
 to_come (Waiting condition) = []
@@ -52,7 +52,7 @@ to_come (Woken condition) = []
 to_come Inside = []
 to_come (Notifying notes) = notes
 
-same_condition : (condition other : ℕ) → Waiting condition ≡ Waiting other → condition ≡ other
+same_condition : (condition other : ℕ) → ◌≡◌ {A = Stage (List Note)} (Waiting condition) (Waiting other) → condition ≡ other
 unfolding named
 same_condition condition other is = ap named is
 
@@ -63,7 +63,7 @@ same_notes notes other is = ap to_come is
 not_both : (standings : List Standing) (client : ℕ) (place other_place : Place) (condition : ℕ)
     → StandsAt standings client place (Waiting condition) → StandsAt standings client other_place (Woken condition) → ⊥
 not_both standings client place other_place condition waits woken =
-    let same = one_phase standings client place other_place (Waiting condition) (Woken condition) waits woken in cc same
+    let same = one_stage standings client place other_place (Waiting condition) (Woken condition) waits woken in cc same
 
 -- ---- a client that waits on a condition, while another makes its notes
 
@@ -113,7 +113,7 @@ waits_then system client place target c next event condition other others_place 
 come_first : (system : System) (client : ℕ) (place own : Place) (target : Option ℕ) (c next : Configuration) (notes : List Note)
     → StandsAt c.standings client place (Notifying notes) → (event : Notifies system client own target c next) → notes ≡ event.note ∷ event.more
 come_first system client place own target c next notes at event =
-    same_notes notes (event.note ∷ event.more) (one_phase c.standings client place own (Notifying notes) (Notifying (event.note ∷ event.more)) at event.notifying)
+    same_notes notes (event.note ∷ event.more) (one_stage c.standings client place own (Notifying notes) (Notifying (event.note ∷ event.more)) at event.notifying)
 
 -- where no note is on its condition it waits to the end
 still_waits : (system : System) (log : List Entry) (client : ℕ) (c last : Configuration) → IsNotified system log client c last
@@ -271,7 +271,7 @@ woken_on : (before next : Configuration) (woken : ℕ) → AreWoken before next 
     → (end_place : Place) × StandsAt next.standings client end_place (Woken condition)
 woken_on before next woken are condition client place set waits =
     let known = (are client).0 set in
-    let same = same_condition known.1 condition (one_phase before.standings client known.0 place (Waiting known.1) (Waiting condition) known.2 waits) in
+    let same = same_condition known.1 condition (one_stage before.standings client known.0 place (Waiting known.1) (Waiting condition) known.2 waits) in
     (known.0, subst (λ (on : ℕ). StandsAt next.standings client known.0 (Woken on)) same known.3)
 
 bits_of : Outcome → ℕ

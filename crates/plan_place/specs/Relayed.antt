@@ -15,7 +15,7 @@ use Rattle.machine_events.specs.declared.plan.CondKind.TheVariants as kinds
 use Rattle.machine_events.specs.declared.plan.Note.{Note}
 use Rattle.machine_events.specs.declared.plan.Plan.{Plan}
 use Rattle.machine_events.specs.Configurations.{Configuration, StandsAt, system_under}
-use Rattle.machine_events.specs.Configurations.Phase.{Waiting}
+use Rattle.machine_events.specs.declared.event.Stage.TheVariants.{Waiting}
 use Rattle.machine_events.specs.Logs.{IsLegal, IsSection}
 use Rattle.machine_events.specs.Plans.{FitsPlan, IsLawful, has_note, notes_at}
 use Rattle.logic_wp.specs.PlainClaims.{ReadsNone}

@@ -33,9 +33,9 @@ pub(crate) fn answered_plans_are_placed()
         → IsAnswered monitor plan → HasNoOpenClaim monitor plan.kept
         → IsGreatest monitor plan.kept → IsExact monitor plan }
 {
-    refuted_formula_is_false();
-    refuted_query_is_valid();
-    easy_monitors_have_no_open_claim();
+    refuted_formula_is_false(); // so where the prover finds a certificate
+    refuted_query_is_valid(); // the claim of a note or a kind holds
+    easy_monitors_have_no_open_claim(); // `none_hard` follows from `none_open`
 }
 
 /// A monitor has one exact plan at most.

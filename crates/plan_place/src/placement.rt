@@ -45,7 +45,7 @@ pub fn place(alloc: Global, monitor: &Monitor) -> Result<PlacedPlan, AllocError>
         (backed_claims monitor.now placed.plan) placed.proofs) }
 {
     let _blocks = monitor.blocks();
-    answered_plans_are_placed();
+    answered_plans_are_placed(); // gives all but `backed` and `proofs`
     let placed = answered(alloc, monitor)?;
     Ok(placed)
 }

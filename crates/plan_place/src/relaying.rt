@@ -36,7 +36,7 @@ pub fn relay(alloc: Global, monitor: &Monitor, plan: &Plan) -> Result<Plan, Allo
         IsLawful monitor.now plan.now → IsLawful monitor.now relayed) }
 {
     let _blocks = monitor.blocks();
-    relayed_plans_are_lawful();
+    relayed_plans_are_lawful(); // gives `fits` and `lawful`
     let relayed = relayed_plan(alloc, monitor, plan)?;
     Ok(relayed)
 }

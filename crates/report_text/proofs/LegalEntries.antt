@@ -20,8 +20,10 @@ use Rattle.machine_implicit.specs.Runs.{Situation, IsRun}
 use Rattle.machine_events.specs.declared.log.Entry.{Entry}
 use Rattle.machine_events.specs.declared.log.Outcome.{Outcome}
 use Rattle.machine_events.specs.declared.log.Outcome.TheVariants as outcomes
-use Rattle.machine_events.specs.Configurations.{System, Phase, Standing, Configuration, StandsAt, situation_of}
-use Rattle.machine_events.specs.Configurations.Phase.{Idle, Waiting, Woken}
+use Rattle.machine_events.specs.declared.plan.Note.{Note}
+use Rattle.machine_events.specs.declared.event.Stage.{Stage}
+use Rattle.machine_events.specs.Configurations.{System, Standing, Configuration, StandsAt, situation_of}
+use Rattle.machine_events.specs.declared.event.Stage.TheVariants.{Idle, Waiting, Woken}
 use Rattle.machine_events.specs.Pending.{IsSystem, IsSound}
 use Rattle.machine_events.specs.Logs.{IsBegun, IsSection, IsLegal, AreWoken, commits_of, entry_at}
 use Rattle.machine_events.specs.Logs.IsSection.{waited, refused, replied}
@@ -94,10 +96,10 @@ pub record IsAtPlace (system : System) (log : List Entry) (client : ℕ) (place 
   pub at : slice_get now.places client ≡ Some place
 
 at_place : (system : System) (log : List Entry) (c : Configuration) (client : ℕ) (place : Place)
-    (phase : Phase) → IsSound system c → IsLegal system log c
-    → StandsAt c.standings client place phase → IsAtPlace system log client place
-at_place system log c client place phase sound legal stands = record {
-  within = omega (arith, sound.one_each, stands_within c.standings client place phase stands);
+    (stage : Stage (List Note)) → IsSound system c → IsLegal system log c
+    → StandsAt c.standings client place stage → IsAtPlace system log client place
+at_place system log c client place stage sound legal stands = record {
+  within = omega (arith, sound.one_each, stands_within c.standings client place stage stands);
   now = situation_of c;
   run = subst (λ (commits : List Commit). IsRun system.monitor system.clients commits (situation_of c)) (legal_commits system log c legal) sound.run;
   at = slice_get-map (λ (standing : Standing). standing.place) c.standings client ∙ ap (option_map (λ (standing : Standing). standing.place)) stands;

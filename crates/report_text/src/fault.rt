@@ -93,8 +93,8 @@ fn write_place<S: Sink>(
     )
 }
 
-// What is wrong, as bytes.
-fn refusal_bytes(what: Refusal) -> &'static [u8]
+/// What is wrong, as bytes.
+pub fn refusal_bytes(what: Refusal) -> &'static [u8]
     ensures { result.now ≡ refusal_text what }
 {
     match what {

@@ -22,7 +22,7 @@ mod turns;
 mod values;
 
 pub use candidate::write_candidate;
-pub use fault::{Fault, write_fault};
+pub use fault::{Fault, refusal_bytes, write_fault};
 pub use lang_base::{Counted, Refusal, SourceFault};
 pub use laws::text_names_log;
 pub use log::{are_done, write_log};

@@ -77,7 +77,7 @@ impl Machine {
     }
 
     /// The stage of a client, where there is one of this number.
-    fn stage(&self, client: u32) -> Option<Stage> {
+    fn stage(&self, client: u32) -> Option<Stage<usize>> {
         if (client as usize) < self.clients {
             Some(self.config.stage(client))
         } else {
@@ -120,8 +120,8 @@ enum Check<'a> {
     /// Of a client's events, with notes that name nobody and that name a target, it allows this one
     /// alone.
     Allows(u32, u32, Option<Event>),
-    /// A client's stage.
-    Stage(u32, Stage),
+    /// A client's stage, with how many of its notes are to come.
+    Stage(u32, Stage<usize>),
     /// Who has the lock.
     Owner(Option<u32>),
     /// The values of the fields.
@@ -131,7 +131,7 @@ enum Check<'a> {
     /// For how many commits there is room.
     Room(usize),
     /// The client of the event is at the stage, has this event alone, and makes it.
-    MakesItsOwn(Stage, Event),
+    MakesItsOwn(Stage<usize>, Event),
 }
 
 impl Machine {
@@ -151,7 +151,7 @@ impl Machine {
     }
 
     /// Whether the client of the event is at the stage, has this event alone, and makes it.
-    fn makes_its_own(&mut self, stage: Stage, event: Event) -> bool {
+    fn makes_its_own(&mut self, stage: Stage<usize>, event: Event) -> bool {
         let client = client_of(event);
         let other = if client == A { B } else { A };
         self.stage(client) == Some(stage)
@@ -316,8 +316,8 @@ fn each_stage_allows_its_own_events_alone(rt: HostRuntime) -> Result<(), Fail> {
         Check::MakesItsOwn(Stage::Idle, Event::Begin { client: A }),
         Check::MakesItsOwn(Stage::Entering, Event::Lock { client: A }),
         Check::MakesItsOwn(Stage::Inside, Event::Run { client: A }),
-        Check::MakesItsOwn(Stage::Notifying, notes_to(A, None)),
-        Check::MakesItsOwn(Stage::Notifying, Event::Unlock { client: A }),
+        Check::MakesItsOwn(Stage::Notifying(1), notes_to(A, None)),
+        Check::MakesItsOwn(Stage::Notifying(0), Event::Unlock { client: A }),
         Check::MakesItsOwn(Stage::Idle, Event::Begin { client: B }),
         Check::MakesItsOwn(Stage::Entering, Event::Lock { client: B }),
         Check::MakesItsOwn(Stage::Inside, Event::Wait { client: B }),
@@ -327,7 +327,7 @@ fn each_stage_allows_its_own_events_alone(rt: HostRuntime) -> Result<(), Fail> {
         Check::MakesItsOwn(Stage::Idle, Event::Begin { client: A }),
         Check::MakesItsOwn(Stage::Entering, Event::Lock { client: A }),
         Check::MakesItsOwn(Stage::Inside, Event::Run { client: A }),
-        Check::MakesItsOwn(Stage::Notifying, notes_to(A, Some(B))),
+        Check::MakesItsOwn(Stage::Notifying(1), notes_to(A, Some(B))),
         // The lock is taken, and then A has no call left.
         Check::Allows(B, A, None),
         Check::Makes(&[Event::Unlock { client: A }]),
@@ -396,8 +396,8 @@ fn a_call_that_tries_is_refused_inside(rt: HostRuntime) -> Result<(), Fail> {
         Check::Makes(&wait_of(A)),
         Check::Owner(Some(A)),
         Check::Allows(A, B, Some(Event::Unlock { client: A })),
-        Check::Stage(A, Stage::Notifying),
-        Check::MakesItsOwn(Stage::Notifying, Event::Unlock { client: A }),
+        Check::Stage(A, Stage::Notifying(0)),
+        Check::MakesItsOwn(Stage::Notifying(0), Event::Unlock { client: A }),
         Check::Stage(A, Stage::Idle),
         Check::Refuses(Event::Begin { client: A }),
         Check::Values(&[Value::Bool(false)]),

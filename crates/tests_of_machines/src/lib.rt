@@ -1,6 +1,6 @@
-//! Tests of single events, sections and steps, which no command makes alone, of scripts that are
-//! put together by hand, and of the large input. What the runs of whole schedules are is said by
-//! the rows of the crate `rows`.
+//! Tests of single events and sections, which no command makes alone, of scripts that are put
+//! together by hand, and of the large input. What the runs of whole schedules are is said by the
+//! rows of the crate `rows`.
 //!
 //! There are only tests. The answers were worked out by hand from the rules of the machines.
 #![tactic(auto)]
@@ -9,8 +9,6 @@
 mod events;
 #[cfg(test)]
 mod large;
-#[cfg(test)]
-mod machine;
 #[cfg(test)]
 mod reading;
 #[cfg(test)]

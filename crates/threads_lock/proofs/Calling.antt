@@ -10,7 +10,7 @@ use Rattle.machine_explicit.specs.Sections.{FreeMachine, HoldsAlways, MadeSectio
 use Rattle.machine_explicit.specs.Sections.{NotMade, Sections}
 use Rattle.threads_lock.specs.declared.receipt.Receipt.{Receipt}
 use Rattle.threads_lock.specs.declared.view.Knowledge.{Knowledge}
-use Rattle.threads_lock.specs.declared.view.Stage.TheVariants.{Holding}
+use Rattle.threads_lock.specs.declared.view.SeatState.TheVariants.{Holding}
 use Rattle.threads_lock.specs.declared.view.View.{View}
 use Rattle.threads_lock.specs.Passes.{IsKnown, Looks, Reaches, SectionsShared}
 use Rattle.threads_lock.specs.inner.Queueing.{holds}
@@ -66,8 +66,8 @@ step_gives client me next y (Err fault) has now made always = record {
   rests = record { rests = made.rests; entries = made.entries; same = refl };
 }
 
-pub publish_turn : (client number : ℕ) (me mid : Me FreeMachine View) (section : Section) → IsHolding number me → IsMade client me mid section → (t : ℕ) × (mid.0.stage ≡ Holding t)
-publish_turn client number me mid section h made = (h.0, ap (λ (m : Me FreeMachine View). m.0.stage) made.now ∙ h.2)
+pub publish_turn : (client number : ℕ) (me mid : Me FreeMachine View) (section : Section) → IsHolding number me → IsMade client me mid section → (t : ℕ) × (mid.0.state ≡ Holding t)
+publish_turn client number me mid section h made = (h.0, ap (λ (m : Me FreeMachine View). m.0.state) made.now ∙ h.2)
 
 pub publish_made : (client : ℕ) (me mid : Me FreeMachine View) (section : Section) → IsMade client me mid section
     → (y : FreeMachine) × (mid.1 ≡ (0, y) ∷ []) × HoldsAlways y × MadeSection section.entry.client mid.0.known.front y section
@@ -87,7 +87,7 @@ pub record CountGives (client number : ℕ) (me next : Me FreeMachine View) (sec
   pub known : IsKnown next.0.known
 
 pub count_gives : (client number : ℕ) (me mid next : Me FreeMachine View) (section : Section) → IsHolding number me → IsKnown me.0.known → IsMade client me mid section
-    → ((t : ℕ) (y : FreeMachine) → mid.0.stage ≡ Holding t → mid.1 ≡ (0, y) ∷ [] → next ≡ (told t mid.0 y section.entry, (0, y) ∷ [])) → CountGives client number me next section
+    → ((t : ℕ) (y : FreeMachine) → mid.0.state ≡ Holding t → mid.1 ≡ (0, y) ∷ [] → next ≡ (told t mid.0 y section.entry, (0, y) ∷ [])) → CountGives client number me next section
 unfolding publish_turn publish_made
 count_gives client number me mid next section h known is tells = subst (λ n. CountGives client number me n section) (sym next_is) record {
   turn = (refl, refl);

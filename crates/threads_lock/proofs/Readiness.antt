@@ -4,8 +4,10 @@ use Rattle.std.specs.Prelude.{nat_le, length}
 use Rattle.std.proofs.lemmas.Grind.{common_steps}
 use Rattle.machine_implicit.specs.declared.place.Place.{Place}
 use Rattle.machine_events.specs.declared.log.Entry.{Entry}
-use Rattle.machine_events.specs.Configurations.{System, Phase, Standing, Configuration, StandsAt}
-use Rattle.machine_events.specs.Configurations.Phase.{Idle, Woken}
+use Rattle.machine_events.specs.declared.plan.Note.{Note}
+use Rattle.machine_events.specs.declared.event.Stage.{Stage}
+use Rattle.machine_events.specs.Configurations.{System, Standing, Configuration, StandsAt}
+use Rattle.machine_events.specs.declared.event.Stage.TheVariants.{Idle, Woken}
 use Rattle.machine_events.specs.Events.{Begins}
 use Rattle.machine_events.specs.Logs.{IsBegun, IsClosed, IsSection, is_spurious_entry, rests}
 use Rattle.machine_events.specs.Logs.IsSection.{waited, refused, replied}
@@ -16,24 +18,24 @@ use Rattle.threads_lock.specs.Growth.{Follows}
 
 -- a client stands at one place
 same_rests : (system : System) (standings : List Standing) (client : ℕ) (place also : Place)
-    (phase phase' : Phase) → StandsAt standings client place phase
-    → StandsAt standings client also phase'
-    → rests system client also phase' ≡ rests system client place phase
-same_rests system standings client place also phase phase' at at' = ap (λ (s : Standing). rests system client s.place s.phase) (some_same _ _ (sym at' ∙ at))
+    (stage stage' : Stage (List Note)) → StandsAt standings client place stage
+    → StandsAt standings client also stage'
+    → rests system client also stage' ≡ rests system client place stage
+same_rests system standings client place also stage stage' at at' = ap (λ (s : Standing). rests system client s.place s.stage) (some_same _ _ (sym at' ∙ at))
   where
     some_same : (a b : Standing) → Some a ≡ Some b → a ≡ b
     some_same a b e = cc
 
 begun_works : (system : System) (client : ℕ) (place : Place) (before begun : Configuration)
-    → IsBegun system client place before begun → (also : Place) (phase : Phase)
-    → StandsAt before.standings client also phase → rests system client also phase ≡ true → ⊥
-begun_works system client place before begun begins also phase at rest = ⊎_elim
+    → IsBegun system client place before begun → (also : Place) (stage : Stage (List Note))
+    → StandsAt before.standings client also stage → rests system client also stage ≡ true → ⊥
+begun_works system client place before begun begins also stage at rest = ⊎_elim
     (λ (b : Begins system client place before begun).
-    let idle : nat_le (length (calls_of system.clients client)) place.past ≡ true = sym (same_rests system before.standings client place also Idle phase b.idle at) ∙ rest in
+    let idle : nat_le (length (calls_of system.clients client)) place.past ≡ true = sym (same_rests system before.standings client place also Idle stage b.idle at) ∙ rest in
     let left = b.left in
     absurd (below (length (calls_of system.clients client)) place.past left idle))
     (λ (w : ((condition : ℕ) × StandsAt before.standings client place (Woken condition)) × (begun ≡ before)).
-    absurd (true≢false (sym rest ∙ same_rests system before.standings client place also (Woken w.0.0) phase w.0.1 at)))
+    absurd (true≢false (sym rest ∙ same_rests system before.standings client place also (Woken w.0.0) stage w.0.1 at)))
     begins
   where
     below : (n m : ℕ) → m < n → nat_le n m ≡ true → ⊥
@@ -41,11 +43,11 @@ begun_works system client place before begun begins also phase at rest = ⊎_eli
 
 section_works : (system : System) (log : List Entry) (before : Configuration) (entry : Entry)
     (next : Configuration) → IsSection system log before entry next
-    → (place : Place) (phase : Phase) → StandsAt before.standings entry.client place phase
-    → rests system entry.client place phase ≡ true → ⊥
-section_works system log before entry next (waited client place begun locked last free begins locks waits) also phase at rest = begun_works system client place before begun begins also phase at rest
-section_works system log before entry next (refused client place goes reply state begun locked ran last free begins locks refuses unlocks) also phase at rest = begun_works system client place before begun begins also phase at rest
-section_works system log before entry next (replied client place goes woken reply state begun locked ran notified last free begins locks runs notes unlocks are) also phase at rest = begun_works system client place before begun begins also phase at rest
+    → (place : Place) (stage : Stage (List Note)) → StandsAt before.standings entry.client place stage
+    → rests system entry.client place stage ≡ true → ⊥
+section_works system log before entry next (waited client place begun locked last free begins locks waits) also stage at rest = begun_works system client place before begun begins also stage at rest
+section_works system log before entry next (refused client place goes reply state begun locked ran last free begins locks refuses unlocks) also stage at rest = begun_works system client place before begun begins also stage at rest
+section_works system log before entry next (replied client place goes woken reply state begun locked ran notified last free begins locks runs notes unlocks are) also stage at rest = begun_works system client place before begun begins also stage at rest
 
 pub made_works : (client : ℕ) (before next : FreeMachine) (section : Section)
     → MadeSection client before next section → Rests before client → ⊥

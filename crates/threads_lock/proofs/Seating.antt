@@ -10,7 +10,7 @@ use Rattle.atomic_table.specs.Table.{step, Enters, Splits, Joins, opening, Final
 use Rattle.atomic_table.proofs.Lists.{at_snoc, at_longer, set_else}
 use Rattle.machine_explicit.specs.Sections.{FreeMachine, HoldsAlways}
 use Rattle.threads_lock.specs.declared.receipt.Receipt.{Receipt}
-use Rattle.threads_lock.specs.declared.view.Stage.TheVariants.{Idle}
+use Rattle.threads_lock.specs.declared.view.SeatState.TheVariants.{Idle}
 use Rattle.threads_lock.specs.declared.view.View.{View}
 use Rattle.threads_lock.specs.declared.view.Terms.{Terms}
 use Rattle.threads_lock.specs.Growth.{Follows}
@@ -59,8 +59,8 @@ module _ (key : Terms) where
       one zero v e = subst (Fits 0 0 [] x) (some-injective _ _ e) fits
       one (suc j) v e = absurd (some-ne-none v (sym e))
 
-      none_has : (j : ℕ) (v : View) → get_elem? (newcomer key ∷ []) j ≡ some v → holds v.stage ≡ false
-      none_has zero v e = ap (λ (u : View). holds u.stage) (sym (some-injective _ _ e))
+      none_has : (j : ℕ) (v : View) → get_elem? (newcomer key ∷ []) j ≡ some v → holds v.state ≡ false
+      none_has zero v e = ap (λ (u : View). holds u.state) (sym (some-injective _ _ e))
       none_has (suc j) v e = absurd (some-ne-none v (sym e))
 
       alone : AreApart (newcomer key ∷ [])
@@ -70,12 +70,12 @@ module _ (key : Terms) where
 
   -- ---- a seat is cut in two
 
-  pub splits : (id : ℕ) (v : View) → v.stage ≡ Idle → 1 < v.parts → Splits (Kept key) id v (one_less v) (one_part v)
+  pub splits : (id : ℕ) (v : View) → v.state ≡ Idle → 1 < v.parts → Splits (Kept key) id v (one_less v) (one_part v)
   splits id v idle two s r at =
       let w : View = one_less v in let u : View = one_part v in let f = r.each id v at in let k = f.known (omega arith) in let vs : List View = set s.views id w in
       let back : Within (vs ++ u ∷ []) s.views = λ j e t p has. ⊎_elim
-      (λ q. each_set (λ j y. ticket_of y.stage ≡ some t → get_elem? s.views j ≡ some y) s.views id w (λ yes. absurd (idle_has v.stage t idle yes)) (λ j y _ q _. q) j e q has)
-      (λ (same : u ≡ e). absurd (idle_has e.stage t (ap (λ (y : View). y.stage) (sym same)) has)) (at_snoc vs u e j p) in
+      (λ q. each_set (λ j y. ticket_of y.state ≡ some t → get_elem? s.views j ≡ some y) s.views id w (λ yes. absurd (idle_has v.state t idle yes)) (λ j y _ q _. q) j e q has)
+      (λ (same : u ≡ e). absurd (idle_has e.state t (ap (λ (y : View). y.state) (sym same)) has)) (at_snoc vs u e j p) in
       let on : Within s.views (vs ++ u ∷ []) = λ j e t p has. at_longer vs (u ∷ []) j e (set_else s.views id j w (apart_from s.views id v idle at j e t p has) ∙ p) in record {
         top = r.top;
         history = r.history;
@@ -103,7 +103,7 @@ module _ (key : Terms) where
   pub spares : (slots : ℕ) → Enters (Kept key) slots 1 (λ n w. Came (step slots 1 0 0 none) (newcomer key, []) n (w, []))
   spares slots s r _ _ =
       let u : View = spent in let vs : List View = s.views in
-      let back : Within (vs ++ u ∷ []) vs = λ j e t p has. ⊎_elim (λ q. q) (λ (same : u ≡ e). absurd (idle_has e.stage t (ap (λ (y : View). y.stage) (sym same)) has)) (at_snoc vs u e j p) in
+      let back : Within (vs ++ u ∷ []) vs = λ j e t p has. ⊎_elim (λ q. q) (λ (same : u ≡ e). absurd (idle_has e.state t (ap (λ (y : View). y.state) (sym same)) has)) (at_snoc vs u e j p) in
       let on : Within vs (vs ++ u ∷ []) = λ j e t p has. at_longer vs (u ∷ []) j e p in (
         u,
         record {
@@ -136,13 +136,13 @@ module _ (key : Terms) where
       (λ not. let z = times_once start 0 r limit turn k ge (omega arith) in omega arith))
       (λ not. let z = times_before start 0 r limit turn k (omega arith) in omega arith)
 
-  pub joins : (id : ℕ) (v : View) (other : ℕ) (w : View) → v.stage ≡ Idle → w.stage ≡ Idle → 0 < v.parts → 0 < w.parts → Joins (Kept key) id v other w (together v w) spent
+  pub joins : (id : ℕ) (v : View) (other : ℕ) (w : View) → v.state ≡ Idle → w.state ≡ Idle → 0 < v.parts → 0 < w.parts → Joins (Kept key) id v other w (together v w) spent
   joins id v other w idle idle' live live' s r at apart there =
       let b : View = together v w in let vs : List View = set s.views id b in let f = r.each id v at in
       let there' : get_elem? s.views other ≡ some w = sym (set_else s.views id other b apart) ∙ there in let g = r.each other w there' in
       let kv = f.known live in let kw = g.known live' in
-      let back : Within (set vs other spent) s.views = λ j e t. each_set (λ j y. ticket_of y.stage ≡ some t → get_elem? s.views j ≡ some y) vs other spent (λ yes. absurd (some-ne-none t (sym yes)))
-      (λ j y _ q. each_set (λ j y. ticket_of y.stage ≡ some t → get_elem? s.views j ≡ some y) s.views id b (λ yes. absurd (idle_has v.stage t idle yes)) (λ j y _ q _. q) j y q) j e in
+      let back : Within (set vs other spent) s.views = λ j e t. each_set (λ j y. ticket_of y.state ≡ some t → get_elem? s.views j ≡ some y) vs other spent (λ yes. absurd (some-ne-none t (sym yes)))
+      (λ j y _ q. each_set (λ j y. ticket_of y.state ≡ some t → get_elem? s.views j ≡ some y) s.views id b (λ yes. absurd (idle_has v.state t idle yes)) (λ j y _ q _. q) j y q) j e in
       let on : Within s.views (set vs other spent) = λ j e t p has. set_else vs other j spent (apart_from s.views other w idle' there' j e t p has) ∙ (set_else s.views id j b (apart_from s.views id v idle at j e t p has) ∙ p) in
       let counts : (place : ℕ) → total (claim place) (set vs other spent) ≡ total (claim place) s.views = λ place.
       let p = total_set (claim place) s.views id v b at in let z = total_set (claim place) vs other w spent there in let n = times_merged place v.known.receipts w.known.receipts in let nothing : claim place spent ≡ 0 = refl in omega arith in
@@ -164,13 +164,13 @@ module _ (key : Terms) where
             (λ j y _ e. each_set (λ j y. Fits r.served r.drawn r.history r.top y) s.views id b
             (fits_live r.served r.drawn r.history r.top b (omega arith) (known_joined r.history r.top v.known w.known kv.0 kw.0 kv.1 kw.1 most) (agrees_joined r.history r.top v.known w.known kv.1 kw.1) f.ticket) (λ j y _ h. r.each j y h) j y e);
         queue = queue_stays r.served r.drawn (set vs other spent) s.views back on
-            (let p = total_same in_queue s.views id v b at refl in let z = total_set in_queue vs other w spent there in let i : queued w.stage ≡ 0 = ap queued idle' in omega arith) r.queue;
+            (let p = total_same in_queue s.views id v b at refl in let z = total_set in_queue vs other w spent there in let i : queued w.state ≡ 0 = ap queued idle' in omega arith) r.queue;
         lock = lock_stays r.served r.limit r.top s.homes (set vs other spent) s.views back on r.lock;
       }
 
   -- ---- one view has all parts and no ticket
 
-  pub closes : (id : ℕ) (v : View) (ws : List ℕ) (xs : List FreeMachine) (x : FreeMachine) → v.stage ≡ Idle → v.parts ≡ key.passes → 0 < key.passes → get_elem? xs 0 ≡ some x → Final (Seen (Kept key) id v) ws xs → EndsWith key.start.value v.known x
+  pub closes : (id : ℕ) (v : View) (ws : List ℕ) (xs : List FreeMachine) (x : FreeMachine) → v.state ≡ Idle → v.parts ≡ key.passes → 0 < key.passes → get_elem? xs 0 ≡ some x → Final (Seen (Kept key) id v) ws xs → EndsWith key.start.value v.known x
   closes id v ws xs x idle all some_pass last final =
       let s : St = final.0 in let r : Kept key s = final.1.0 in let at : get_elem? s.views id ≡ some v = final.1.1 in let vals = final.4 in let f = r.each id v at in
       let empty : (j : ℕ) (u : View) → j ≢ id → get_elem? s.views j ≡ some u → u ≡ spent = λ j u far at'.
@@ -181,7 +181,7 @@ module _ (key : Terms) where
       subst (EndsWith key.start.value v.known) same (record { history = r.history; limit = r.limit; made = r.made; agrees = (f.known (omega arith)).1; receipts = λ k. sym (alone k) ∙ r.receipts k }))
       (λ (t : IsTaken r.served r.limit r.top s.homes s.views).
       let far : t.holder ≢ id = apart_from s.views id v idle at t.holder t.its_view r.served t.holder_is t.ticket in
-      absurd (both_not (holds t.its_view.stage) t.turn (ap (λ (u : View). holds u.stage) (empty t.holder t.its_view far t.holder_is))))
+      absurd (both_not (holds t.its_view.state) t.turn (ap (λ (u : View). holds u.state) (empty t.holder t.its_view far t.holder_is))))
       r.lock
 
 -- the table as it is made

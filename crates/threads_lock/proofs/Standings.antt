@@ -1,20 +1,20 @@
 -- The answer how a client stands is right.
-use Rattle.std.proofs.Common.{◌≡◌, ◌↔◌, ◌<◌, ◌≤◌, ℕ, Bool, true, false, IsTrue, Option, Some, length, refl, sym, ap, ◌∙◌, subst, arith}
+use Rattle.std.proofs.Common.{◌≡◌, ◌↔◌, ◌<◌, ◌≤◌, ℕ, Bool, true, false, IsTrue, Option, Some, length, refl, sym, ap, ◌∙◌, List, subst, arith}
 use Rattle.std.specs.Prelude.{IsSomeAnd, nat_lt, slice_get}
 use Rattle.std.specs.Option.{option_map_or}
 use Rattle.std.proofs.lemmas.Bool.{true≢false}
 use Rattle.std.proofs.lemmas.Bool.Decides.{nat_tests}
 use Rattle.machine_implicit.specs.declared.place.Place.{Place}
 use Rattle.machine_implicit.specs.Scripted.{calls_of}
+use Rattle.machine_events.specs.declared.plan.Note.{Note}
 use Rattle.machine_events.specs.declared.event.Stage.{Stage}
-use Rattle.machine_events.specs.Configurations.{Phase, StandsAt}
+use Rattle.machine_events.specs.Configurations.{StandsAt}
 use Rattle.machine_events.specs.Configurations.{Standing as Stood}
-use Rattle.machine_events.specs.Configurations.Phase.{Idle, Entering, Waiting}
-use Rattle.machine_events.specs.Configurations.Phase.{Woken, Inside, Notifying}
+use Rattle.machine_events.specs.declared.event.Stage.TheVariants.{Idle, Entering, Waiting, Woken, Inside, Notifying}
 use Rattle.machine_events.specs.Logs.{IsClosed}
 use Rattle.machine_events.specs.Stages.{is_waiting_stage}
 use Rattle.machine_events.proofs.Facing.{is_some_and}
-use Rattle.machine_explicit.specs.Machines.{stage_of}
+use Rattle.machine_explicit.specs.Machines.{shown_stage}
 use Rattle.machine_explicit.specs.Sections.{FreeMachine, HoldsAlways, can_start, is_ready}
 use Rattle.threads_lock.specs.declared.standing.Standing.{Standing}
 use Rattle.threads_lock.specs.declared.standing.Standing.TheVariants as standings
@@ -84,28 +84,28 @@ waits_stands machine client left waits is_open = record {
 
 -- ---- where a client stands
 
-abbrev stood : Place → Phase → Stood
-stood place phase = record { place = place; phase = phase }
+abbrev stood : Place → Stage (List Note) → Stood
+stood place stage = record { place = place; stage = stage }
 
 some_same : (one two : Stood) → Some one ≡ Some two → one ≡ two
 some_same one two is = cc
 
-abbrev is_waiting : Phase → Bool
-is_waiting phase = is_waiting_stage (stage_of phase)
+abbrev is_waiting : Stage (List Note) → Bool
+is_waiting stage = is_waiting_stage (shown_stage stage)
 
-module _ (machine : FreeMachine) (client : ℕ) (place : Place) (phase : Phase) (at : StandsAt machine.now.standings client place phase) where
-  same : (also : Place) (other_phase : Phase) → StandsAt machine.now.standings client also other_phase → stood also other_phase ≡ stood place phase
-  same also other_phase there = some_same (stood also other_phase) (stood place phase) (sym there ∙ at)
+module _ (machine : FreeMachine) (client : ℕ) (place : Place) (stage : Stage (List Note)) (at : StandsAt machine.now.standings client place stage) where
+  same : (also : Place) (other_stage : Stage (List Note)) → StandsAt machine.now.standings client also other_stage → stood also other_stage ≡ stood place stage
+  same also other_stage there = some_same (stood also other_stage) (stood place stage) (sym there ∙ at)
 
-  -- it waits only in a phase that waits
-  waits_not : is_waiting phase ≡ false → IsWaitingIn machine client → ⊥
-  waits_not is (also, condition, there) = true≢false (ap (λ (s : Stood). is_waiting s.phase) (same also (Waiting condition) there) ∙ is)
+  -- it waits only in a stage that waits
+  waits_not : is_waiting stage ≡ false → IsWaitingIn machine client → ⊥
+  waits_not is (also, condition, there) = true≢false (ap (λ (s : Stood). is_waiting s.stage) (same also (Waiting condition) there) ∙ is)
 
   -- a call is left at its place
   left_at : place.past < length (calls_of machine.system.clients client) → HasNoCallLeft machine client → ⊥
-  left_at left (also, other_phase, there, none) = let e = ap (λ (s : Stood). s.place.past) (same also other_phase there) in omega (arith, left, none, e)
+  left_at left (also, other_stage, there, none) = let e = ap (λ (s : Stood). s.place.past) (same also other_stage there) in omega (arith, left, none, e)
 
--- ---- by its phase
+-- ---- by its stage
 
 past_or_left : (past count : ℕ) → nat_lt past count ≡ false → count ≤ past
 past_or_left past count is = grind (arith, nat_tests, is)
@@ -124,27 +124,27 @@ by_idle machine client place true stalled at is =
 by_idle machine client place false stalled at is =
     over_stands machine client (place, Idle, at, past_or_left place.past (length (calls_of machine.system.clients client)) is) (waits_not machine client place Idle at refl)
 
-by_phase : (machine : FreeMachine) (client : ℕ) (place : Place) (phase : Phase) (stalled : Bool) → HoldsAlways machine → StandsAt machine.now.standings client place phase
-    → IsTrue stalled ↔ ((is_waiting phase ≡ true) × IsNow machine) → StandsAs machine client (standing_by (can_start machine.system client place phase) (is_waiting phase) stalled)
-by_phase machine client place Idle stalled always at is = by_idle machine client place (nat_lt place.past (length (calls_of machine.system.clients client))) stalled at refl
-by_phase machine client place Entering stalled always at is = absurd (true≢false (sym (always.between client place Entering at)))
-by_phase machine client place (Waiting condition) stalled always at is =
+by_stage : (machine : FreeMachine) (client : ℕ) (place : Place) (stage : Stage (List Note)) (stalled : Bool) → HoldsAlways machine → StandsAt machine.now.standings client place stage
+    → IsTrue stalled ↔ ((is_waiting stage ≡ true) × IsNow machine) → StandsAs machine client (standing_by (can_start machine.system client place stage) (is_waiting stage) stalled)
+by_stage machine client place Idle stalled always at is = by_idle machine client place (nat_lt place.past (length (calls_of machine.system.clients client))) stalled at refl
+by_stage machine client place Entering stalled always at is = absurd (true≢false (sym (always.between client place Entering at)))
+by_stage machine client place (Waiting condition) stalled always at is =
     by_waits machine client stalled (left_at machine client place (Waiting condition) at (always.sound.begun client place (Waiting condition) at refl)) (place, condition, at) is
-by_phase machine client place (Woken condition) stalled always at is =
+by_stage machine client place (Woken condition) stalled always at is =
     ready_stands machine client (left_at machine client place (Woken condition) at (always.sound.begun client place (Woken condition) at refl)) (waits_not machine client place (Woken condition) at refl)
-by_phase machine client place Inside stalled always at is = absurd (true≢false (sym (always.between client place Inside at)))
-by_phase machine client place (Notifying notes) stalled always at is = absurd (true≢false (sym (always.between client place (Notifying notes) at)))
+by_stage machine client place Inside stalled always at is = absurd (true≢false (sym (always.between client place Inside at)))
+by_stage machine client place (Notifying notes) stalled always at is = absurd (true≢false (sym (always.between client place (Notifying notes) at)))
 
-pub stands_as : (machine : FreeMachine) (client : ℕ) (ready waits stalled : Bool) (stage : Stage) (answer : Standing) → HoldsAlways machine → ready ≡ is_ready machine client
-    → IsSomeAnd (slice_get machine.now.standings client) (λ standing. stage ≡ stage_of standing.phase) → waits ≡ is_waiting_stage stage
+pub stands_as : (machine : FreeMachine) (client : ℕ) (ready waits stalled : Bool) (stage : Stage ℕ) (answer : Standing) → HoldsAlways machine → ready ≡ is_ready machine client
+    → IsSomeAnd (slice_get machine.now.standings client) (λ standing. stage ≡ shown_stage standing.stage) → waits ≡ is_waiting_stage stage
     → IsTrue stalled ↔ ((waits ≡ true) × IsClosed machine.system machine.now) → answer ≡ standing_by ready waits stalled → StandsAs machine client answer
 stands_as machine client ready waits stalled stage answer always starts_is told waits_is stalled_is is =
-    let found = is_some_and (slice_get machine.now.standings client) (λ (standing : Stood). stage ≡ stage_of standing.phase) told in
-    let waiting : waits ≡ is_waiting found.0.phase = waits_is ∙ ap is_waiting_stage found.2 in
-    let starts : ready ≡ can_start machine.system client found.0.place found.0.phase =
-    starts_is ∙ ap (λ (one : Option Stood). option_map_or (λ standing. can_start machine.system client standing.place standing.phase) one false) found.1 in
-    let stands = by_phase machine client found.0.place found.0.phase stalled always found.1
+    let found = is_some_and (slice_get machine.now.standings client) (λ (standing : Stood). stage ≡ shown_stage standing.stage) told in
+    let waiting : waits ≡ is_waiting found.0.stage = waits_is ∙ ap is_waiting_stage found.2 in
+    let starts : ready ≡ can_start machine.system client found.0.place found.0.stage =
+    starts_is ∙ ap (λ (one : Option Stood). option_map_or (λ standing. can_start machine.system client standing.place standing.stage) one false) found.1 in
+    let stands = by_stage machine client found.0.place found.0.stage stalled always found.1
     (subst (λ w. IsTrue stalled ↔ ((w ≡ true) × IsNow machine)) waiting stalled_is) in
     subst (StandsAs machine client) (sym is)
     (subst (λ r. StandsAs machine client (standing_by r waits stalled)) (sym starts)
-    (subst (λ w. StandsAs machine client (standing_by (can_start machine.system client found.0.place found.0.phase) w stalled)) (sym waiting) stands))
+    (subst (λ w. StandsAs machine client (standing_by (can_start machine.system client found.0.place found.0.stage) w stalled)) (sym waiting) stands))

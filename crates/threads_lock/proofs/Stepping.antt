@@ -12,14 +12,14 @@ use Rattle.atomic_table.proofs.Lists.{set_again, set_here, one_turn}
 use Rattle.machine_events.specs.declared.log.Entry.{Entry}
 use Rattle.machine_explicit.specs.Sections.{FreeMachine, HoldsAlways}
 use Rattle.threads_lock.specs.declared.receipt.Receipt.{Receipt}
-use Rattle.threads_lock.specs.declared.view.Stage.TheVariants.{Idle, Waiting, Holding}
+use Rattle.threads_lock.specs.declared.view.SeatState.TheVariants.{Idle, Waiting, Holding}
 use Rattle.threads_lock.specs.declared.view.View.{View}
 use Rattle.threads_lock.specs.declared.view.Terms.{Terms}
 use Rattle.threads_lock.specs.Growth.{Follows}
 use Rattle.threads_lock.specs.Passes.{IsKnown, observed}
 use Rattle.threads_lock.specs.Closing.{times}
 use Rattle.threads_lock.specs.inner.Queueing.{view, ticket_of, holds, queued, limit_of, IsHistory, Agrees, Fits, IsQueue, IsFree, IsTaken, Kept}
-use Rattle.threads_lock.specs.inner.Steps.{staged, Drew, has_at, HasTurn, Called, receipt_at, told, Published, Released, Observed}
+use Rattle.threads_lock.specs.inner.Steps.{in_state, Drew, has_at, HasTurn, Called, receipt_at, told, Published, Released, Observed}
 use Rattle.threads_lock.proofs.Growing.{follows_on, last_same}
 use Rattle.threads_lock.proofs.Receipts.{times_push, turn_push}
 use Rattle.threads_lock.proofs.Knowing.{known_looked, known_observed, known_receipted, agrees_same, agrees_on, agrees_receipted}
@@ -38,35 +38,35 @@ abbrev pub parts : View → ℕ
 parts v = v.parts
 
 abbrev pub in_queue : View → ℕ
-in_queue v = queued v.stage
+in_queue v = queued v.state
 
 abbrev pub claim : ℕ → View → ℕ
 claim place v = times place v.known.receipts
 
 -- whoever has a ticket has parts
-live_ticket : (served drawn : ℕ) (history : List Receipt) (top : FreeMachine) (v : View) (t : ℕ) → Fits served drawn history top v → ticket_of v.stage ≡ some t → 0 < v.parts
+live_ticket : (served drawn : ℕ) (history : List Receipt) (top : FreeMachine) (v : View) (t : ℕ) → Fits served drawn history top v → ticket_of v.state ≡ some t → 0 < v.parts
 live_ticket served drawn history top v t f has = dite (ℕ_discrete v.parts 0)
-    (λ none_left. absurd (some-ne-none t (sym has ∙ ap (λ (u : View). ticket_of u.stage) (f.joined none_left))))
+    (λ none_left. absurd (some-ne-none t (sym has ∙ ap (λ (u : View). ticket_of u.state) (f.joined none_left))))
     (λ some_left. omega arith)
 
-queued_parts : (served drawn : ℕ) (history : List Receipt) (top : FreeMachine) (v : View) → Fits served drawn history top v → queued v.stage ≤ v.parts
+queued_parts : (served drawn : ℕ) (history : List Receipt) (top : FreeMachine) (v : View) → Fits served drawn history top v → queued v.state ≤ v.parts
 queued_parts served drawn history top v f = dite (ℕ_discrete v.parts 0)
-    (λ none_left. let z : queued v.stage ≡ 0 = ap (λ (u : View). queued u.stage) (f.joined none_left) in omega arith)
-    (λ some_left. let q = queued_le v.stage in omega arith)
+    (λ none_left. let z : queued v.state ≡ 0 = ap (λ (u : View). queued u.state) (f.joined none_left) in omega arith)
+    (λ some_left. let q = queued_le v.state in omega arith)
 
 -- what fits still fits where the same tickets are out
 fits_same : (served drawn served' drawn' : ℕ) (history : List Receipt) (top : FreeMachine) (v : View) → Fits served drawn history top v
-    → ((t : ℕ) → ticket_of v.stage ≡ some t → (served' ≤ t) × (t < drawn')) → Fits served' drawn' history top v
+    → ((t : ℕ) → ticket_of v.state ≡ some t → (served' ≤ t) × (t < drawn')) → Fits served' drawn' history top v
 fits_same served drawn served' drawn' history top v f tickets = record { known = f.known; joined = f.joined; ticket = tickets }
 
 -- one view that is live is set to another that is
 pub fits_live : (served drawn : ℕ) (history : List Receipt) (top : FreeMachine) (v : View) → 0 < v.parts → IsKnown v.known → Agrees history top v.known
-    → ((t : ℕ) → ticket_of v.stage ≡ some t → (served ≤ t) × (t < drawn)) → Fits served drawn history top v
+    → ((t : ℕ) → ticket_of v.state ≡ some t → (served ≤ t) × (t < drawn)) → Fits served drawn history top v
 fits_live served drawn history top v live known agrees tickets = record { known = λ _. (known, agrees); joined = λ none_left. absurd (omega arith); ticket = tickets }
 
 module _ (key : Terms) where
   -- the ticket whose number the word tells is the one that is served
-  in_turn : (s : St) (r : Kept key s) (id : ℕ) (v : View) (t : ℕ) → get_elem? s.views id ≡ some v → ticket_of v.stage ≡ some t → get_or s.words 1 0 ≡ t % 2 ^ 64 → r.served ≡ t
+  in_turn : (s : St) (r : Kept key s) (id : ℕ) (v : View) (t : ℕ) → get_elem? s.views id ≡ some v → ticket_of v.state ≡ some t → get_or s.words 1 0 ≡ t % 2 ^ 64 → r.served ≡ t
   in_turn s r id v t at has is =
       let b = (r.each id v at).ticket t has in let few = r.few in let q = r.queue.out in let p = r.whole in
       let le = total_le in_queue parts s.views (λ j u e. queued_parts r.served r.drawn r.history r.top u (r.each j u e)) in
@@ -99,9 +99,9 @@ module _ (key : Terms) where
 
   -- ---- a ticket is drawn
 
-  pub draws : (slots id : ℕ) (m : M) → m.0.stage ≡ Idle → 0 < m.0.parts → Allows (Kept key) slots id m 0 (λ x. (x + 1) % 2 ^ 64) (Drew (step slots 0 1 0 none) m)
+  pub draws : (slots id : ℕ) (m : M) → m.0.state ≡ Idle → 0 < m.0.parts → Allows (Kept key) slots id m 0 (λ x. (x + 1) % 2 ^ 64) (Drew (step slots 0 1 0 none) m)
   draws slots id m idle live s r _ at _ =
-      let v : View = m.0 in let w : View = staged (Waiting r.drawn) v in let f = r.each id v at in (
+      let v : View = m.0 in let w : View = in_state (Waiting r.drawn) v in let f = r.each id v at in (
         w,
         keeps,
         tt,
@@ -116,18 +116,18 @@ module _ (key : Terms) where
         (r.drawn, ap (λ ws. get_or ws 0 0) r.words, refl),
       )
     where
-      queue_drawn : (s : St) (r : Kept key s) (id : ℕ) (v : View) → get_elem? s.views id ≡ some v → v.stage ≡ Idle → IsQueue r.served (r.drawn + 1) (set s.views id (staged (Waiting r.drawn) v))
-      queue_drawn s r id v at idle = let w : View = staged (Waiting r.drawn) v in record {
-        out = (let p = total_set in_queue s.views id v w at in let z : queued v.stage ≡ 0 = ap queued idle in let q = r.queue.out in omega arith);
+      queue_drawn : (s : St) (r : Kept key s) (id : ℕ) (v : View) → get_elem? s.views id ≡ some v → v.state ≡ Idle → IsQueue r.served (r.drawn + 1) (set s.views id (in_state (Waiting r.drawn) v))
+      queue_drawn s r id v at idle = let w : View = in_state (Waiting r.drawn) v in record {
+        out = (let p = total_set in_queue s.views id v w at in let z : queued v.state ≡ 0 = ap queued idle in let q = r.queue.out in omega arith);
         apart = apart_set s.views id w r.queue.apart (λ j u t _ e a b. let same : r.drawn ≡ t = some-injective r.drawn t b in let h = (r.each j u e).ticket t a in absurd (omega arith));
         had = λ t ge lt. dite (ℕ_discrete r.drawn t)
             (λ same. (id, w, set_here s.views id w (within s.views id v at), ap some same))
-            (λ other. had_set s.views id v w t at (λ has. absurd (idle_has v.stage t idle has)) (r.queue.had t ge (omega arith)));
+            (λ other. had_set s.views id v w t at (λ has. absurd (idle_has v.state t idle has)) (r.queue.had t ge (omega arith)));
       }
 
   -- ---- the ticket that is served is read
 
-  takes_turn : (s : St) (r : Kept key s) (id : ℕ) (v : View) (t : ℕ) → get_elem? s.views id ≡ some v → v.stage ≡ Waiting t → 0 < v.parts → r.served ≡ t → IsFree r.served r.limit r.top s.homes s.views
+  takes_turn : (s : St) (r : Kept key s) (id : ℕ) (v : View) (t : ℕ) → get_elem? s.views id ≡ some v → v.state ≡ Waiting t → 0 < v.parts → r.served ≡ t → IsFree r.served r.limit r.top s.homes s.views
       → Kept key (record { words = set s.words 1 (get_or s.words 1 0); homes = set s.homes 0 none; views = set s.views id (has_at t r.top v) })
   takes_turn s r id v t at waits live now free =
       let w : View = has_at t r.top v in let f = r.each id v at in let k = f.known live in let has = ap ticket_of waits in
@@ -147,15 +147,15 @@ module _ (key : Terms) where
         ticket = ap some (sym now);
         front = refl;
         bound = (let b = free.bound in omega arith);
-        only = each_set (λ j u. holds u.stage ≡ true → j ≡ id) s.views id w (λ _. refl) (λ j u _ e h. absurd (both_not (holds u.stage) h (free.none_holds j u e)));
+        only = each_set (λ j u. holds u.state ≡ true → j ≡ id) s.views id w (λ _. refl) (λ j u _ e h. absurd (both_not (holds u.state) h (free.none_holds j u e)));
       })
 
   -- who is served has the lock, so a view that waits for this ticket is no other
-  not_taken : (s : St) (r : Kept key s) (id : ℕ) (v : View) (t : ℕ) → get_elem? s.views id ≡ some v → v.stage ≡ Waiting t → r.served ≡ t → IsTaken r.served r.limit r.top s.homes s.views → ⊥
+  not_taken : (s : St) (r : Kept key s) (id : ℕ) (v : View) (t : ℕ) → get_elem? s.views id ≡ some v → v.state ≡ Waiting t → r.served ≡ t → IsTaken r.served r.limit r.top s.homes s.views → ⊥
   not_taken s r id v t at waits now k =
       let same : k.holder ≡ id = r.queue.apart k.holder id k.its_view v t k.holder_is at (k.ticket ∙ ap some now) (ap ticket_of waits) in
       let one : k.its_view ≡ v = some-injective k.its_view v (sym k.holder_is ∙ (ap (get_elem? s.views) same ∙ at)) in
-      both_not (holds v.stage) (ap (λ (u : View). holds u.stage) (sym one) ∙ k.turn) (ap holds waits)
+      both_not (holds v.state) (ap (λ (u : View). holds u.state) (sym one) ∙ k.turn) (ap holds waits)
 
   pub unmoved : (s : St) (i id : ℕ) (m : M) → get_elem? s.views id ≡ some m.0 → Kept key s → Kept key (stepped s i (get_or s.words i 0) id m.1 m.0 keeps)
   unmoved s i id m at r = subst (λ (z : List ℕ × List View). Kept key (record { words = z.0; homes = s.homes; views = z.1 })) (λ k. (sym (set-get_or s.words i 0) k, sym (set_again s.views id m.0 at) k)) r
@@ -164,7 +164,7 @@ module _ (key : Terms) where
   abbrev Tells : M → ℕ → M → ℕ → Type 0
   Tells m x n t = (x ≡ t % 2 ^ 64 → HasTurn t m n) × (x ≢ t % 2 ^ 64 → n ≡ m)
 
-  pub calls : (slots id : ℕ) (m : M) (t : ℕ) → m.0.stage ≡ Waiting t → 0 < m.0.parts → Allows (Kept key) slots id m 1 (λ x. x) (Called (step slots 1 0 0 none) m)
+  pub calls : (slots id : ℕ) (m : M) (t : ℕ) → m.0.state ≡ Waiting t → 0 < m.0.parts → Allows (Kept key) slots id m 1 (λ x. x) (Called (step slots 1 0 0 none) m)
   calls slots id m t waits live s r _ at _ = let v : View = m.0 in let x : ℕ = get_or s.words 1 0 in dite (ℕ_discrete x (t % 2 ^ 64))
       (λ is. let now : r.served ≡ t = in_turn s r id v t at (ap ticket_of waits) is in ⊎_elim
       (λ (free : IsFree r.served r.limit r.top s.homes s.views).
@@ -208,18 +208,18 @@ module _ (key : Terms) where
       map_length [] = refl
       map_length (x ∷ rs) = let h = map_length rs in omega arith
 
-  publish_at : (s : St) (r : Kept key s) (id : ℕ) (v : View) (t : ℕ) (y : FreeMachine) (e : Entry) (n : ℕ) → get_elem? s.views id ≡ some v → v.stage ≡ Holding t → y.log ≡ v.known.front.log ++ e ∷ []
+  publish_at : (s : St) (r : Kept key s) (id : ℕ) (v : View) (t : ℕ) (y : FreeMachine) (e : Entry) (n : ℕ) → get_elem? s.views id ≡ some v → v.state ≡ Holding t → y.log ≡ v.known.front.log ++ e ∷ []
       → Follows v.known.front y → HoldsAlways y → n ≡ length y.log → IsTaken r.served r.limit r.top s.homes s.views
       → Kept key (record { words = set s.words 2 n; homes = s.homes; views = set s.views id (told t v y e) })
-  publish_at s r id v t y e n at stage grown grew always count k =
+  publish_at s r id v t y e n at state grown grew always count k =
       let w : View = told t v y e in let f = r.each id v at in let q : Receipt = receipt_at t v e in
-      let turn = its_turn r.served r.limit r.top s.homes s.views id v at (ap holds stage) k in
+      let turn = its_turn r.served r.limit r.top s.homes s.views id v at (ap holds state) k in
       let front : v.known.front ≡ r.top = ap (λ (u : View). u.known.front) turn.1 ∙ k.front in
       let on : Follows r.top y = subst (λ z. Follows z y) front grew in
-      let has : some t ≡ some r.served = sym (ap ticket_of stage) ∙ (ap (λ (u : View). ticket_of u.stage) turn.1 ∙ k.ticket) in
+      let has : some t ≡ some r.served = sym (ap ticket_of state) ∙ (ap (λ (u : View). ticket_of u.state) turn.1 ∙ k.ticket) in
       let now : t ≡ r.served = some-injective t r.served has in
-      let below : r.limit ≤ t = subst (λ stage. r.limit ≤ limit_of stage) (ap (λ (u : View). u.stage) (sym turn.1) ∙ stage) k.bound in
-      let live = live_ticket r.served r.drawn r.history r.top v t f (ap ticket_of stage) in let known = f.known live in record {
+      let below : r.limit ≤ t = subst (λ state. r.limit ≤ limit_of state) (ap (λ (u : View). u.state) (sym turn.1) ∙ state) k.bound in
+      let live = live_ticket r.served r.drawn r.history r.top v t f (ap ticket_of state) in let known = f.known live in record {
         top = y;
         history = r.history ++ q ∷ [];
         limit = t + 1;
@@ -231,9 +231,9 @@ module _ (key : Terms) where
         made = history_on key.start.value r.history r.limit r.top y q r.made on always (grown ∙ ap (λ (z : FreeMachine). z.log ++ e ∷ []) front) (ap (λ (z : FreeMachine). length z.log) front) below;
         receipts = λ place. let a = total_set (claim place) s.views id v w at in let b = times_push place v.known.receipts q in let c = times_push place r.history q in let d = r.receipts place in omega arith;
         each = each_set (λ j u. Fits r.served r.drawn (r.history ++ q ∷ []) y u) s.views id w
-            (fits_live r.served r.drawn (r.history ++ q ∷ []) y w live (known_receipted v.known y q known.0 grew always grown refl) (agrees_receipted r.history q r.top y v.known on known.1) (λ n its. f.ticket n (ap ticket_of stage ∙ its)))
+            (fits_live r.served r.drawn (r.history ++ q ∷ []) y w live (known_receipted v.known y q known.0 grew always grown refl) (agrees_receipted r.history q r.top y v.known on known.1) (λ n its. f.ticket n (ap ticket_of state ∙ its)))
             (λ j u _ at'. let g = r.each j u at' in record { known = λ some_left. let h = g.known some_left in (h.0, agrees_on r.history q r.top y u.known on h.1); joined = g.joined; ticket = g.ticket });
-        queue = queue_same r.served r.drawn s.views id v w at (sym (ap queued stage)) (sym (ap ticket_of stage)) r.queue;
+        queue = queue_same r.served r.drawn s.views id v w at (sym (ap queued state)) (sym (ap ticket_of state)) r.queue;
         lock = inr record {
           away = k.away;
           holder = id;
@@ -243,7 +243,7 @@ module _ (key : Terms) where
           ticket = ap some now;
           front = refl;
           bound = omega arith;
-          only = each_set (λ j u. holds u.stage ≡ true → j ≡ id) s.views id w (λ _. refl) (λ j u far at' h. absurd (far (k.only j u at' h ∙ sym turn.0)));
+          only = each_set (λ j u. holds u.state ≡ true → j ≡ id) s.views id w (λ _. refl) (λ j u far at' h. absurd (far (k.only j u at' h ∙ sym turn.0)));
         };
       }
 
@@ -251,36 +251,36 @@ module _ (key : Terms) where
   first_of d [] = d
   first_of d (c ∷ cs) = c.1
 
-  pub publishes : (slots id : ℕ) (m : M) (t : ℕ) (y : FreeMachine) (e : Entry) (n : ℕ) → m.0.stage ≡ Holding t → m.1 ≡ (0, y) ∷ [] → y.log ≡ m.0.known.front.log ++ e ∷ [] → Follows m.0.known.front y → HoldsAlways y → n ≡ length y.log
+  pub publishes : (slots id : ℕ) (m : M) (t : ℕ) (y : FreeMachine) (e : Entry) (n : ℕ) → m.0.state ≡ Holding t → m.1 ≡ (0, y) ∷ [] → y.log ≡ m.0.known.front.log ++ e ∷ [] → Follows m.0.known.front y → HoldsAlways y → n ≡ length y.log
       → Allows (Kept key) slots id m 2 (λ _. n) (λ _. Published (step slots 2 n 0 none) m n)
-  publishes slots id m t y e n stage carries grown grew always count s r _ at _ = ⊎_elim
-      (λ (f : IsFree r.served r.limit r.top s.homes s.views). absurd (both_not (holds m.0.stage) (ap holds stage) (f.none_holds id m.0 at)))
+  publishes slots id m t y e n state carries grown grew always count s r _ at _ = ⊎_elim
+      (λ (f : IsFree r.served r.limit r.top s.homes s.views). absurd (both_not (holds m.0.state) (ap holds state) (f.none_holds id m.0 at)))
       (λ (k : IsTaken r.served r.limit r.top s.homes s.views). (
         told t m.0 y e,
         keeps,
         tt,
-        publish_at s r id m.0 t y e n at stage grown grew always count k,
-        λ t' y' e' stage' carries' grown'.
+        publish_at s r id m.0 t y e n at state grown grew always count k,
+        λ t' y' e' state' carries' grown'.
             let one : y ≡ y' = ap (first_of y) (sym carries ∙ carries') in
             let same : e ≡ e' = last_same m.0.known.front.log e e' (sym grown ∙ (ap (λ (z : FreeMachine). z.log) one ∙ grown')) in
-            let its : t ≡ t' = same_holding t t' (sym stage ∙ stage') in
+            let its : t ≡ t' = same_holding t t' (sym state ∙ state') in
             λ i. (told (its i) m.0 (one i) (same i), m.1),
       ))
       r.lock
 
   -- ---- the monitor is given back
 
-  release_at : (s : St) (r : Kept key s) (id : ℕ) (m : M) → get_elem? s.views id ≡ some m.0 → holds m.0.stage ≡ true → m.1 ≡ (0, m.0.known.front) ∷ [] → IsTaken r.served r.limit r.top s.homes s.views
-      → Kept key (stepped s 1 ((get_or s.words 1 0 + 1) % 2 ^ 64) id m.1 (staged Idle m.0) gives)
+  release_at : (s : St) (r : Kept key s) (id : ℕ) (m : M) → get_elem? s.views id ≡ some m.0 → holds m.0.state ≡ true → m.1 ≡ (0, m.0.known.front) ∷ [] → IsTaken r.served r.limit r.top s.homes s.views
+      → Kept key (stepped s 1 ((get_or s.words 1 0 + 1) % 2 ^ 64) id m.1 (in_state Idle m.0) gives)
   release_at s r id m at holding carries k =
-      let v : View = m.0 in let w : View = staged Idle v in let f = r.each id v at in
+      let v : View = m.0 in let w : View = in_state Idle v in let f = r.each id v at in
       let turn = its_turn r.served r.limit r.top s.homes s.views id v at holding k in
       let front : v.known.front ≡ r.top = ap (λ (u : View). u.known.front) turn.1 ∙ k.front in
-      let has : ticket_of v.stage ≡ some r.served = ap (λ (u : View). ticket_of u.stage) turn.1 ∙ k.ticket in
+      let has : ticket_of v.state ≡ some r.served = ap (λ (u : View). ticket_of u.state) turn.1 ∙ k.ticket in
       let live = live_ticket r.served r.drawn r.history r.top v r.served f has in let known = f.known live in
-      let mine = holder_queued v.stage r.served holding has in
-      let below : r.limit ≤ limit_of v.stage = subst (λ (u : View). r.limit ≤ limit_of u.stage) (sym turn.1) k.bound in
-      let other : (j : ℕ) (u : View) (t : ℕ) → j ≢ id → get_elem? s.views j ≡ some u → ticket_of u.stage ≡ some t → t ≢ r.served = λ j u t far at' its same. far (r.queue.apart j id u v t at' at its (has ∙ ap some (sym same))) in
+      let mine = holder_queued v.state r.served holding has in
+      let below : r.limit ≤ limit_of v.state = subst (λ (u : View). r.limit ≤ limit_of u.state) (sym turn.1) k.bound in
+      let other : (j : ℕ) (u : View) (t : ℕ) → j ≢ id → get_elem? s.views j ≡ some u → ticket_of u.state ≡ some t → t ≢ r.served = λ j u t far at' its same. far (r.queue.apart j id u v t at' at its (has ∙ ap some (sym same))) in
       quiet s r id v w (set s.words 1 ((get_or s.words 1 0 + 1) % 2 ^ 64)) (put_back s.homes m.1) (r.served + 1) r.drawn at
       (ap (λ ws. set ws 1 ((get_or ws 1 0 + 1) % 2 ^ 64)) r.words ∙ ap (λ n. r.drawn % 2 ^ 64 ∷ n ∷ length r.top.log ∷ []) (mod-add-mod r.served (2 ^ 64) 1))
       refl
@@ -294,21 +294,21 @@ module _ (key : Terms) where
       })
       (inl record {
         home = ap (put_back s.homes) carries ∙ (ap (λ h. set h 0 (some v.known.front)) k.away ∙ ap (λ z. some z ∷ []) front);
-        none_holds = each_set (λ j u. holds u.stage ≡ false) s.views id w refl (λ j u far at'. not_true (holds u.stage) (λ h. far (k.only j u at' h ∙ sym turn.0)));
+        none_holds = each_set (λ j u. holds u.state ≡ false) s.views id w refl (λ j u far at'. not_true (holds u.state) (λ h. far (k.only j u at' h ∙ sym turn.0)));
         bound = (let b = mine.1 in omega arith);
       })
 
-  pub releases : (slots id : ℕ) (m : M) → holds m.0.stage ≡ true → m.1 ≡ (0, m.0.known.front) ∷ [] → Allows (Kept key) slots id m 1 (λ x. (x + 1) % 2 ^ 64) (Released (step slots 1 1 0 none) m)
+  pub releases : (slots id : ℕ) (m : M) → holds m.0.state ≡ true → m.1 ≡ (0, m.0.known.front) ∷ [] → Allows (Kept key) slots id m 1 (λ x. (x + 1) % 2 ^ 64) (Released (step slots 1 1 0 none) m)
   releases slots id m holding carries s r _ at _ = ⊎_elim
-      (λ (f : IsFree r.served r.limit r.top s.homes s.views). absurd (both_not (holds m.0.stage) holding (f.none_holds id m.0 at)))
-      (λ (k : IsTaken r.served r.limit r.top s.homes s.views). (staged Idle m.0, gives, tt, release_at s r id m at holding carries k, ap (λ c. (staged Idle m.0, rest c)) carries))
+      (λ (f : IsFree r.served r.limit r.top s.homes s.views). absurd (both_not (holds m.0.state) holding (f.none_holds id m.0 at)))
+      (λ (k : IsTaken r.served r.limit r.top s.homes s.views). (in_state Idle m.0, gives, tt, release_at s r id m at holding carries k, ap (λ c. (in_state Idle m.0, rest c)) carries))
       r.lock
 
   -- ---- the log's length is read
 
-  pub observes : (slots id : ℕ) (m : M) → m.0.stage ≡ Idle → 0 < m.0.parts → Allows (Kept key) slots id m 2 (λ x. x) (Observed (step slots 2 0 0 none) m)
+  pub observes : (slots id : ℕ) (m : M) → m.0.state ≡ Idle → 0 < m.0.parts → Allows (Kept key) slots id m 2 (λ x. x) (Observed (step slots 2 0 0 none) m)
   observes slots id m idle live s r _ at _ =
-      let v : View = m.0 in let x : ℕ = get_or s.words 2 0 in let w : View = view v.stage v.parts (observed v.known x) in let f = r.each id v at in
+      let v : View = m.0 in let x : ℕ = get_or s.words 2 0 in let w : View = view v.state v.parts (observed v.known x) in let f = r.each id v at in
       let k = f.known live in let count : x ≡ length r.top.log = ap (λ ws. get_or ws 2 0) r.words in let le = k.1.seen in (
         w,
         keeps,

@@ -6,8 +6,8 @@ use native.Mathlib.Decide.{ℕ_discrete}
 use lib.ListN.{get_elem?}
 use Rattle.atomic_table.proofs.Lists.{at_set, set_else, set_here}
 use Rattle.machine_explicit.specs.Sections.{FreeMachine}
-use Rattle.threads_lock.specs.declared.view.Stage.{Stage}
-use Rattle.threads_lock.specs.declared.view.Stage.TheVariants.{Idle, Waiting, Holding, Leaving}
+use Rattle.threads_lock.specs.declared.view.SeatState.{SeatState}
+use Rattle.threads_lock.specs.declared.view.SeatState.TheVariants.{Idle, Waiting, Holding, Leaving}
 use Rattle.threads_lock.specs.declared.view.View.{View}
 use Rattle.threads_lock.specs.inner.Queueing.{total, ticket_of, holds, queued, limit_of, AreApart, IsHad, IsQueue, IsFree, IsTaken}
 
@@ -64,7 +64,7 @@ each_set P vs id w mine others j u e =
     (λ (x : (j ≢ id) × (get_elem? vs j ≡ some u)). others j u x.0 x.1)
     (at_set vs id j w u e)
 
--- ---- stages
+-- ---- states of seats
 
 pub not_true : (b : Bool) → (b ≡ true → ⊥) → b ≡ false
 not_true true n = absurd (n refl)
@@ -73,29 +73,29 @@ not_true false n = refl
 pub both_not : (b : Bool) → b ≡ true → b ≡ false → ⊥
 both_not b t f = true≢false (sym t ∙ f)
 
-pub holder_has : (stage : Stage) → holds stage ≡ true → (t : ℕ) × (ticket_of stage ≡ some t)
+pub holder_has : (state : SeatState) → holds state ≡ true → (t : ℕ) × (ticket_of state ≡ some t)
 holder_has Idle h = absurd (both_not false h refl)
 holder_has (Waiting t) h = absurd (both_not false h refl)
 holder_has (Holding t) h = (t, refl)
 holder_has (Leaving t) h = (t, refl)
 
-pub queued_le : (stage : Stage) → queued stage ≤ 1
+pub queued_le : (state : SeatState) → queued state ≤ 1
 queued_le Idle = omega arith
 queued_le (Waiting t) = omega arith
 queued_le (Holding t) = omega arith
 queued_le (Leaving t) = omega arith
 
 -- whoever has the turn is in the queue, and its receipts are below the next ticket
-pub holder_queued : (stage : Stage) (t : ℕ) → holds stage ≡ true → ticket_of stage ≡ some t → (queued stage ≡ 1) × (limit_of stage ≤ t + 1)
+pub holder_queued : (state : SeatState) (t : ℕ) → holds state ≡ true → ticket_of state ≡ some t → (queued state ≡ 1) × (limit_of state ≤ t + 1)
 holder_queued Idle t h has = absurd (both_not false h refl)
 holder_queued (Waiting r) t h has = absurd (both_not false h refl)
 holder_queued (Holding r) t h has = let same : r ≡ t = some-injective r t has in (refl, omega arith)
 holder_queued (Leaving r) t h has = let same : r ≡ t = some-injective r t has in (refl, omega arith)
 
-pub idle_has : (stage : Stage) (t : ℕ) → stage ≡ Idle → ticket_of stage ≡ some t → ⊥
-idle_has stage t idle has = some-ne-none t (sym has ∙ ap ticket_of idle)
+pub idle_has : (state : SeatState) (t : ℕ) → state ≡ Idle → ticket_of state ≡ some t → ⊥
+idle_has state t idle has = some-ne-none t (sym has ∙ ap ticket_of idle)
 
-abbrev number_of : Stage → ℕ
+abbrev number_of : SeatState → ℕ
 number_of Idle = 0
 number_of (Waiting t) = t
 number_of (Holding t) = t
@@ -110,18 +110,18 @@ same_holding t r e = ap number_of e
 -- ---- tickets
 
 -- a view that has a ticket is no view that is idle
-pub apart_from : (vs : List View) (id : ℕ) (v : View) → v.stage ≡ Idle → get_elem? vs id ≡ some v → (j : ℕ) (e : View) (t : ℕ) → get_elem? vs j ≡ some e → ticket_of e.stage ≡ some t → j ≢ id
-apart_from vs id v idle at j e t p has same = idle_has e.stage t (ap (λ (y : View). y.stage) (some-injective e v (sym p ∙ (ap (get_elem? vs) same ∙ at))) ∙ idle) has
+pub apart_from : (vs : List View) (id : ℕ) (v : View) → v.state ≡ Idle → get_elem? vs id ≡ some v → (j : ℕ) (e : View) (t : ℕ) → get_elem? vs j ≡ some e → ticket_of e.state ≡ some t → j ≢ id
+apart_from vs id v idle at j e t p has same = idle_has e.state t (ap (λ (y : View). y.state) (some-injective e v (sym p ∙ (ap (get_elem? vs) same ∙ at))) ∙ idle) has
 
 -- where each view with a ticket was there before
 abbrev pub Within : List View → List View → Type 0
-Within vs was = (j : ℕ) (u : View) (t : ℕ) → get_elem? vs j ≡ some u → ticket_of u.stage ≡ some t → get_elem? was j ≡ some u
+Within vs was = (j : ℕ) (u : View) (t : ℕ) → get_elem? vs j ≡ some u → ticket_of u.state ≡ some t → get_elem? was j ≡ some u
 
 apart_stays : (vs was : List View) → Within vs was → AreApart was → AreApart vs
 apart_stays vs was back apart i j u v t p q a b = apart i j u v t (back i u t p a) (back j v t q b) a b
 
 -- views with the same tickets are the same queue
-pub queue_stays : (served drawn : ℕ) (vs was : List View) → Within vs was → Within was vs → total (λ v. queued v.stage) vs ≡ total (λ v. queued v.stage) was → IsQueue served drawn was → IsQueue served drawn vs
+pub queue_stays : (served drawn : ℕ) (vs was : List View) → Within vs was → Within was vs → total (λ v. queued v.state) vs ≡ total (λ v. queued v.state) was → IsQueue served drawn was → IsQueue served drawn vs
 queue_stays served drawn vs was back on same q = record {
   out = ap (λ n. served + n) same ∙ q.out;
   apart = apart_stays vs was back q.apart;
@@ -133,7 +133,7 @@ pub lock_stays : (served limit : ℕ) (top : FreeMachine) (homes : List (Option 
 lock_stays served limit top homes vs was back on lock = ⊎_elim
     (λ (f : IsFree served limit top homes was). inl record {
       home = f.home;
-      none_holds = λ j u e. not_true (holds u.stage) (λ h. let has = holder_has u.stage h in both_not (holds u.stage) h (f.none_holds j u (back j u has.0 e has.1)));
+      none_holds = λ j u e. not_true (holds u.state) (λ h. let has = holder_has u.state h in both_not (holds u.state) h (f.none_holds j u (back j u has.0 e has.1)));
       bound = f.bound;
     })
     (λ (t : IsTaken served limit top homes was). inr record {
@@ -145,31 +145,31 @@ lock_stays served limit top homes vs was back on lock = ⊎_elim
       ticket = t.ticket;
       front = t.front;
       bound = t.bound;
-      only = λ j u e h. let has = holder_has u.stage h in t.only j u (back j u has.0 e has.1) h;
+      only = λ j u e h. let has = holder_has u.state h in t.only j u (back j u has.0 e has.1) h;
     })
     lock
 
 -- a view is set, and no other has its ticket
 pub apart_set : (vs : List View) (id : ℕ) (w : View) → AreApart vs
-    → ((j : ℕ) (u : View) (t : ℕ) → j ≢ id → get_elem? vs j ≡ some u → ticket_of u.stage ≡ some t → ticket_of w.stage ≡ some t → ⊥)
+    → ((j : ℕ) (u : View) (t : ℕ) → j ≢ id → get_elem? vs j ≡ some u → ticket_of u.state ≡ some t → ticket_of w.state ≡ some t → ⊥)
     → AreApart (set vs id w)
 apart_set vs id w apart alone i j u v t p q a b = ⊎_elim
     (λ (x : (i ≡ id) × (w ≡ u)). ⊎_elim
     (λ (y : (j ≡ id) × (w ≡ v)). x.0 ∙ sym y.0)
-    (λ (y : (j ≢ id) × (get_elem? vs j ≡ some v)). absurd (alone j v t y.0 y.1 b (subst (λ (z : View). ticket_of z.stage ≡ some t) (sym x.1) a)))
+    (λ (y : (j ≢ id) × (get_elem? vs j ≡ some v)). absurd (alone j v t y.0 y.1 b (subst (λ (z : View). ticket_of z.state ≡ some t) (sym x.1) a)))
     (at_set vs id j w v q))
     (λ (x : (i ≢ id) × (get_elem? vs i ≡ some u)). ⊎_elim
-    (λ (y : (j ≡ id) × (w ≡ v)). absurd (alone i u t x.0 x.1 a (subst (λ (z : View). ticket_of z.stage ≡ some t) (sym y.1) b)))
+    (λ (y : (j ≡ id) × (w ≡ v)). absurd (alone i u t x.0 x.1 a (subst (λ (z : View). ticket_of z.state ≡ some t) (sym y.1) b)))
     (λ (y : (j ≢ id) × (get_elem? vs j ≡ some v)). apart i j u v t x.1 y.1 a b)
     (at_set vs id j w v q))
     (at_set vs id i w u p)
 
 -- a view with the ticket is another than the one that is set, or has it still
-pub had_set : (vs : List View) (id : ℕ) (v w : View) (t : ℕ) → get_elem? vs id ≡ some v → (ticket_of v.stage ≡ some t → ticket_of w.stage ≡ some t) → IsHad vs t → IsHad (set vs id w) t
+pub had_set : (vs : List View) (id : ℕ) (v w : View) (t : ℕ) → get_elem? vs id ≡ some v → (ticket_of v.state ≡ some t → ticket_of w.state ≡ some t) → IsHad vs t → IsHad (set vs id w) t
 had_set vs id v w t at keeps had = ⊎_elim
     (λ (same : had.0 ≡ id).
     let one : had.1 ≡ v = some-injective had.1 v (sym had.2 ∙ (ap (get_elem? vs) same ∙ at)) in
-    (id, w, set_here vs id w (within vs id v at), keeps (ap (λ (z : View). ticket_of z.stage) (sym one) ∙ had.3)))
+    (id, w, set_here vs id w (within vs id v at), keeps (ap (λ (z : View). ticket_of z.state) (sym one) ∙ had.3)))
     (λ (other : had.0 ≢ id). (had.0, had.1, set_else vs id had.0 w other ∙ had.2, had.3))
     (which had.0 id)
   where
@@ -177,20 +177,20 @@ had_set vs id v w t at keeps had = ⊎_elim
     which i j = dite (ℕ_discrete i j) (λ same. inl same) (λ other. inr other)
 
 -- a view gets another of the same ticket
-pub queue_same : (served drawn : ℕ) (vs : List View) (id : ℕ) (v w : View) → get_elem? vs id ≡ some v → queued w.stage ≡ queued v.stage → ticket_of w.stage ≡ ticket_of v.stage → IsQueue served drawn vs → IsQueue served drawn (set vs id w)
+pub queue_same : (served drawn : ℕ) (vs : List View) (id : ℕ) (v w : View) → get_elem? vs id ≡ some v → queued w.state ≡ queued v.state → ticket_of w.state ≡ ticket_of v.state → IsQueue served drawn vs → IsQueue served drawn (set vs id w)
 queue_same served drawn vs id v w at same ticket q = record {
-  out = ap (λ n. served + n) (total_same (λ v. queued v.stage) vs id v w at same) ∙ q.out;
+  out = ap (λ n. served + n) (total_same (λ v. queued v.state) vs id v w at same) ∙ q.out;
   apart = apart_set vs id w q.apart (λ j u t far e a b. far (q.apart j id u v t e at a (sym ticket ∙ b)));
   had = λ t ge lt. had_set vs id v w t at (λ has. ticket ∙ has) (q.had t ge lt);
 }
 
 -- a view that hasn't the turn is set to another that hasn't
-pub lock_set : (served limit : ℕ) (top : FreeMachine) (homes : List (Option FreeMachine)) (vs : List View) (id : ℕ) (v w : View) → get_elem? vs id ≡ some v → holds v.stage ≡ false → holds w.stage ≡ false
+pub lock_set : (served limit : ℕ) (top : FreeMachine) (homes : List (Option FreeMachine)) (vs : List View) (id : ℕ) (v w : View) → get_elem? vs id ≡ some v → holds v.state ≡ false → holds w.state ≡ false
     → IsFree served limit top homes vs ⊎ IsTaken served limit top homes vs → IsFree served limit top homes (set vs id w) ⊎ IsTaken served limit top homes (set vs id w)
 lock_set served limit top homes vs id v w at not not' lock = ⊎_elim
-    (λ (f : IsFree served limit top homes vs). inl record { home = f.home; none_holds = each_set (λ j u. holds u.stage ≡ false) vs id w not' (λ j u _ e. f.none_holds j u e); bound = f.bound })
+    (λ (f : IsFree served limit top homes vs). inl record { home = f.home; none_holds = each_set (λ j u. holds u.state ≡ false) vs id w not' (λ j u _ e. f.none_holds j u e); bound = f.bound })
     (λ (t : IsTaken served limit top homes vs).
-    let apart : t.holder ≢ id = λ same. both_not (holds v.stage) (ap (λ (u : View). holds u.stage) (some-injective v t.its_view (sym at ∙ (ap (get_elem? vs) (sym same) ∙ t.holder_is))) ∙ t.turn) not in
+    let apart : t.holder ≢ id = λ same. both_not (holds v.state) (ap (λ (u : View). holds u.state) (some-injective v t.its_view (sym at ∙ (ap (get_elem? vs) (sym same) ∙ t.holder_is))) ∙ t.turn) not in
     inr record {
       away = t.away;
       holder = t.holder;
@@ -200,12 +200,12 @@ lock_set served limit top homes vs id v w at not not' lock = ⊎_elim
       ticket = t.ticket;
       front = t.front;
       bound = t.bound;
-      only = each_set (λ j u. holds u.stage ≡ true → j ≡ t.holder) vs id w (λ yes. absurd (both_not (holds w.stage) yes not')) (λ j u _ e. t.only j u e);
+      only = each_set (λ j u. holds u.state ≡ true → j ≡ t.holder) vs id w (λ yes. absurd (both_not (holds w.state) yes not')) (λ j u _ e. t.only j u e);
     })
     lock
 
 -- the view that has the turn is the holder's
-pub its_turn : (served limit : ℕ) (top : FreeMachine) (homes : List (Option FreeMachine)) (vs : List View) (id : ℕ) (v : View) → get_elem? vs id ≡ some v → holds v.stage ≡ true
+pub its_turn : (served limit : ℕ) (top : FreeMachine) (homes : List (Option FreeMachine)) (vs : List View) (id : ℕ) (v : View) → get_elem? vs id ≡ some v → holds v.state ≡ true
     → (t : IsTaken served limit top homes vs) → (id ≡ t.holder) × (v ≡ t.its_view)
 its_turn served limit top homes vs id v at turn t =
     let same = t.only id v at turn in

@@ -28,7 +28,7 @@ use Rattle.threads_lock.proofs.Calling.{holding_has, looks_clients, looks_seen, 
 pub lent_here : (wish : Wish) (number : ℕ) (me next : Me FreeMachine View) → MayLend wish number me → TurnIsHere number me next → TurnGives number me next
 lent_here wish number me next may here =
     let w = may.waits in
-    let waits : IsWaiting number me me = (w.0, w.1, ap (λ stage. (view stage me.0.parts me.0.known, me.1)) w.2) in
+    let waits : IsWaiting number me me = (w.0, w.1, ap (λ state. (view state me.0.parts me.0.known, me.1)) w.2) in
     turn_gives number me me next may.none may.known waits here
 
 pub lent_turn : (wish : Wish) (number distance : ℕ) (me next : Me FreeMachine View) → MayLend wish number me → TurnComes number me next (distance == 0) → distance ≡ 0 → TurnGives number me next
@@ -76,7 +76,7 @@ still_turn number mid next same turn = subst HasMonitor (sym same) (holding_has 
 
 pub drawn_may : (wish : Wish) (number : ℕ) (me mid : Me FreeMachine View) → IsIdle me → 0 < me.0.parts → IsKnown me.0.known → MayWish wish me.0.known.front.system → IsWaiting number me mid → MayLend wish number mid
 drawn_may wish number me mid idle live known client_is w = record {
-  waits = (w.0, w.1, ap (λ (m : Me FreeMachine View). m.0.stage) w.2);
+  waits = (w.0, w.1, ap (λ (m : Me FreeMachine View). m.0.state) w.2);
   none = ap (λ (m : Me FreeMachine View). m.1) w.2 ∙ idle.1;
   live = subst (λ (m : Me FreeMachine View). 0 < m.0.parts) (sym w.2) live;
   known = subst (λ (m : Me FreeMachine View). IsKnown m.0.known) (sym w.2) known;
@@ -92,7 +92,7 @@ drawn_made wish number me mid next answer w made = record {
 }
 
 pub waiting_ticket : (number : ℕ) (me mid : Me FreeMachine View) → IsWaiting number me mid → WaitsFor number mid
-waiting_ticket number me mid w = (w.0, w.1, ap (λ (m : Me FreeMachine View). m.0.stage) w.2)
+waiting_ticket number me mid w = (w.0, w.1, ap (λ (m : Me FreeMachine View). m.0.state) w.2)
 
 pub waiting_live : (number : ℕ) (me mid : Me FreeMachine View) → IsWaiting number me mid → 0 < me.0.parts → 0 < mid.0.parts
 waiting_live number me mid w live = subst (λ (m : Me FreeMachine View). 0 < m.0.parts) (sym w.2) live

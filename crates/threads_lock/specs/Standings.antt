@@ -1,8 +1,10 @@
 -- How a client stands, as a pass is told.
-use Rattle.std.specs.Prelude.{◌≡◌, ◌≤◌, ◌↔◌, ℕ, length}
+use Rattle.std.specs.Prelude.{◌≡◌, ◌≤◌, ◌↔◌, ℕ, List, length}
 use Rattle.machine_implicit.specs.declared.place.Place.{Place}
 use Rattle.machine_implicit.specs.Scripted.{calls_of}
-use Rattle.machine_events.specs.Configurations.{Phase, StandsAt}
+use Rattle.machine_events.specs.declared.plan.Note.{Note}
+use Rattle.machine_events.specs.declared.event.Stage.{Stage}
+use Rattle.machine_events.specs.Configurations.{StandsAt}
 use Rattle.machine_events.specs.Logs.{IsClosed}
 use Rattle.machine_explicit.specs.Sections.{FreeMachine, IsWaiting}
 use Rattle.threads_lock.specs.declared.standing.Standing.{Standing}
@@ -11,7 +13,8 @@ use Rattle.threads_lock.specs.declared.standing.Standing.TheVariants as standing
 -- the client is past the last of its calls
 abbrev pub HasNoCallLeft : FreeMachine → ℕ → Type 0
 HasNoCallLeft machine client =
-    (place : Place) × (phase : Phase) × StandsAt machine.now.standings client place phase
+    (place : Place) × (stage : Stage (List Note))
+    × StandsAt machine.now.standings client place stage
     × (length (calls_of machine.system.clients client) ≤ place.past)
 
 -- the client waits

@@ -2,7 +2,7 @@
 
 ghost use Rattle.std.specs.Prelude.{◌≡◌, ◌<◌, [], IfOk};
 ghost use Rattle.std.specs.List.{All};
-ghost use Rattle.threads_lock.specs.declared.view.Stage.TheVariants.{Idle};
+ghost use Rattle.threads_lock.specs.declared.view.SeatState.TheVariants.{Idle};
 ghost use Rattle.threads_lock.specs.Passes.{newly_known};
 ghost use Rattle.threads_lock.specs.inner.Queueing.{IsIdle, view};
 ghost use Rattle.threads_lock.specs.inner.Ends.{EndsWith};

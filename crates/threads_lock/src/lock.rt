@@ -5,7 +5,7 @@ ghost use Rattle.std.specs.Prelude.{MatchResult, length};
 ghost use Rattle.machine_events.specs.Logs.{IsClosed};
 ghost use Rattle.machine_explicit.specs.Sections.{FreeMachine, HasEnded, HoldsAlways};
 ghost use Rattle.machine_explicit.specs.Sections.{MadeSection};
-ghost use Rattle.threads_lock.specs.declared.view.Stage.TheVariants.{Idle, Waiting, Holding};
+ghost use Rattle.threads_lock.specs.declared.view.SeatState.TheVariants.{Idle, Waiting, Holding};
 ghost use Rattle.threads_lock.specs.Passes.{IsKnown, Looks, SectionsShared, observed};
 ghost use Rattle.threads_lock.specs.Standings.{StandsAs};
 ghost use Rattle.threads_lock.specs.inner.Queueing.{IsIdle, one_less, one_part, together, view};
@@ -54,7 +54,7 @@ impl Lock {
     /// monitor; else nothing changes.
     pub fn call(&self, seat: &mut Seat, ticket: u64) -> u64
         requires own { seat.old.table_id ≡ self.now.board.shared.table_id }
-        requires waits { (t : ℕ) × (ticket ≡ t % 2 ^ 64) × (seat.old.me.0.stage ≡ Waiting t) }
+        requires waits { (t : ℕ) × (ticket ≡ t % 2 ^ 64) × (seat.old.me.0.state ≡ Waiting t) }
         requires live { 0 < seat.old.me.0.parts }
         ensures own { seat.new.table_id ≡ seat.old.table_id }
         ensures turn { TurnComes ticket seat.old.me seat.new.me (result == 0) }
@@ -66,7 +66,7 @@ impl Lock {
     /// turn, and the monitor.
     fn sleep<R: Wait>(&self, rt: &R, seat: &mut Seat, ticket: u64) -> bool
         requires own { seat.old.table_id ≡ self.now.board.shared.table_id }
-        requires waits { (t : ℕ) × (ticket ≡ t % 2 ^ 64) × (seat.old.me.0.stage ≡ Waiting t) }
+        requires waits { (t : ℕ) × (ticket ≡ t % 2 ^ 64) × (seat.old.me.0.state ≡ Waiting t) }
         requires live { 0 < seat.old.me.0.parts }
         ensures own { seat.new.table_id ≡ seat.old.table_id }
         ensures turn { TurnComes ticket seat.old.me seat.new.me result }
@@ -85,7 +85,7 @@ impl Lock {
     /// sleeps between looks.
     pub fn wait<R: Wait>(&self, rt: &R, seat: &mut Seat, ticket: u64)
         requires own { seat.old.table_id ≡ self.now.board.shared.table_id }
-        requires waits { (t : ℕ) × (ticket ≡ t % 2 ^ 64) × (seat.old.me.0.stage ≡ Waiting t) }
+        requires waits { (t : ℕ) × (ticket ≡ t % 2 ^ 64) × (seat.old.me.0.state ≡ Waiting t) }
         requires live { 0 < seat.old.me.0.parts }
         ensures own { seat.new.table_id ≡ seat.old.table_id }
         ensures turn { TurnIsHere ticket seat.old.me seat.new.me }
@@ -119,11 +119,11 @@ impl Lock {
     /// Tells how long the log is after a section.
     fn publish(&self, seat: &mut Seat, section: Section)
         requires own { seat.old.table_id ≡ self.now.board.shared.table_id }
-        requires turn { (t : ℕ) × (seat.old.me.0.stage ≡ Holding t) }
+        requires turn { (t : ℕ) × (seat.old.me.0.state ≡ Holding t) }
         requires made { (y : FreeMachine) × (seat.old.me.1 ≡ (0, y) ∷ []) × HoldsAlways y
             × MadeSection section.entry.client seat.old.me.0.known.front y section }
         ensures own { seat.new.table_id ≡ seat.old.table_id }
-        ensures told { (t : ℕ) (y : FreeMachine) → seat.old.me.0.stage ≡ Holding t
+        ensures told { (t : ℕ) (y : FreeMachine) → seat.old.me.0.state ≡ Holding t
             → seat.old.me.1 ≡ (0, y) ∷ []
             → seat.new.me ≡ (told t seat.old.me.0 y section.entry, (0, y) ∷ []) }
     {

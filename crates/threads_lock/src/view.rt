@@ -23,7 +23,7 @@ pub struct Knowledge {
 
 /// Where a seat stands in the queue, with the ticket that it drew. Tickets grow without end here;
 /// the words of the lock have them modulo 2^64.
-pub enum Stage {
+pub enum SeatState {
     Idle,
     Waiting(u64),
     /// It has the lock, and has counted no section yet.
@@ -34,7 +34,7 @@ pub enum Stage {
 
 /// What a seat knows.
 pub struct View {
-    pub stage: Stage,
+    pub state: SeatState,
     /// Its parts of the right to close: one for each pass, and none where it was joined into
     /// another.
     pub parts: u64,

@@ -3,7 +3,7 @@ use Rattle.std.specs.Prelude.{◌≡◌, ◌==◌, ℕ, ◌+◌, ◌<◌, ◌≤
 use Rattle.std.specs.Prelude.{length, get_or, filter, Contains, AllPairs, slice_set as set}
 use Rattle.machine_events.specs.declared.log.Outcome.{Outcome}
 use Rattle.machine_events.specs.Configurations.{System, Standing, StandsAt}
-use Rattle.machine_events.specs.Configurations.Phase.{Waiting}
+use Rattle.machine_events.specs.declared.event.Stage.TheVariants.{Waiting}
 use Rattle.machine_events.specs.Logs.{says_waits}
 use Rattle.machine_implicit.specs.declared.place.Place.{Place}
 

@@ -12,15 +12,14 @@ use Rattle.machine_implicit.specs.Places.{tries_at}
 use Rattle.machine_implicit.specs.Scripted.{calls_of}
 use Rattle.machine_events.specs.declared.plan.Note.{Note}
 use Rattle.machine_events.specs.declared.event.Event.TheVariants as events
-use Rattle.machine_events.specs.declared.event.Stage.{Stage}
-use Rattle.machine_events.specs.declared.event.Stage.TheVariants as stages
 use Rattle.machine_events.specs.declared.log.Entry.{Entry}
 use Rattle.machine_events.specs.declared.log.Outcome.{Outcome}
 use Rattle.machine_events.specs.declared.log.Outcome.TheVariants as outcomes
 use Rattle.machine_events.specs.Plans.{notes_at}
-use Rattle.machine_events.specs.Configurations.{Phase, Standing, Configuration, StandsAt, guard_of}
-use Rattle.machine_events.specs.Configurations.Phase.{Idle, Entering, Waiting}
-use Rattle.machine_events.specs.Configurations.Phase.{Woken, Inside, Notifying}
+use Rattle.machine_events.specs.declared.event.Stage.{Stage}
+use Rattle.machine_events.specs.Configurations.{Standing, Configuration, StandsAt, guard_of}
+use Rattle.machine_events.specs.declared.event.Stage.TheVariants.{Idle, Entering, Waiting}
+use Rattle.machine_events.specs.declared.event.Stage.TheVariants.{Woken, Inside, Notifying}
 use Rattle.machine_events.specs.Events.{Locks, Refuses, Runs, Unlocks, Waits, NoneWaits, fires}
 use Rattle.machine_events.specs.Logs.{IsNotified, IsBegun, IsSection, WaitsSince, rests, says_waits}
 use Rattle.machine_explicit.specs.Machines.{Machine, Happened}
@@ -31,10 +30,9 @@ use Rattle.machine_explicit.specs.declared.config.Way.TheVariants as ways
 use Rattle.machine_explicit.specs.declared.config.Went.{Went}
 use Rattle.machine_explicit.specs.declared.config.Went.TheVariants as wents
 use Rattle.machine_explicit.specs.declared.notes.Next.{Next}
-use Rattle.machine_explicit.specs.declared.position.Doing.{Doing}
-use Rattle.machine_explicit.specs.declared.position.Doing.TheVariants as doings
+use Rattle.machine_explicit.specs.declared.position.ToCome.{ToCome}
 use Rattle.machine_explicit.specs.declared.position.Position.{Position}
-use Rattle.machine_explicit.specs.inner.Positions.{phase_of}
+use Rattle.machine_explicit.specs.inner.Positions.{coming_notes}
 use Rattle.machine_explicit.specs.inner.Rings.{AreLines, LinesAfter}
 
 -- ---- the start of a section
@@ -143,9 +141,9 @@ WasWoken before next client =
 -- each client rests
 abbrev pub EachRests : Machine → Type 0
 EachRests machine =
-    (client : ℕ) (place : Place) (phase : Phase)
-    → StandsAt machine.now.standings client place phase
-    → rests machine.system client place phase ≡ true
+    (client : ℕ) (place : Place) (stage : Stage (List Note))
+    → StandsAt machine.now.standings client place stage
+    → rests machine.system client place stage ≡ true
 
 -- the bits of the clients of whom this is true
 abbrev pub AreBits : (ℕ → Type 0) → ℕ → Type 0
@@ -200,7 +198,7 @@ pub record IsComing (machine : Machine) (client : ℕ) (next : Next) : Type 0 wh
   pub place : Place
   pub more : List Note
   pub at : StandsAt machine.now.standings client place (Notifying (next.note ∷ more))
-  pub then_more : phase_of machine.system.plan next.rest ≡ Notifying more
+  pub then_more : coming_notes machine.system.plan next.rest ≡ more
   pub source : next.note.tested ≡ true → (block : ℕ) × (from : ℕ)
       × (slice_get (notes_at machine.system.plan block) from ≡ Some next.note)
 
@@ -363,14 +361,13 @@ WentOnOf client before rings next next_rings outcome =
 
 -- ---- the same of positions, of the first so many clients
 
-abbrev pub doing_rests : List Client → ℕ → Place → Doing → Bool
-doing_rests clients client place (doings.Waiting condition) = true
-doing_rests clients client place doings.Idle =
-    nat_le (length (calls_of clients client)) place.past
-doing_rests clients client place doing = false
+abbrev pub stage_rests : List Client → ℕ → Place → Stage ToCome → Bool
+stage_rests clients client place (Waiting condition) = true
+stage_rests clients client place Idle = nat_le (length (calls_of clients client)) place.past
+stage_rests clients client place stage = false
 
 abbrev pub position_rests : List Client → ℕ → Position → Bool
-position_rests clients client one = doing_rests clients client one.place one.doing
+position_rests clients client one = stage_rests clients client one.place one.stage
 
 abbrev pub AllRest : List Client → List Position → ℕ → Type 0
 AllRest clients positions count =
@@ -380,8 +377,8 @@ AllRest clients positions count =
 -- ---- the monitor
 
 -- the condition on which a client at this stage waits
-abbrev pub stage_condition : Stage → Option ℕ
-stage_condition (stages.Waiting condition) = Some condition
+abbrev pub stage_condition : {N : Type 0} → Stage N → Option ℕ
+stage_condition (Waiting condition) = Some condition
 stage_condition stage = None
 
 -- what is kept of who waits, after an entry at this place
@@ -390,14 +387,13 @@ since_after since entry place =
     if says_waits entry.outcome then set since entry.client (place + 1) else since
 
 -- whether a client at this position can make a section
-abbrev pub doing_starts : List Client → ℕ → Place → Doing → Bool
-doing_starts clients client place doings.Idle =
-    nat_lt place.past (length (calls_of clients client))
-doing_starts clients client place (doings.Woken condition) = true
-doing_starts clients client place doing = false
+abbrev pub stage_starts : List Client → ℕ → Place → Stage ToCome → Bool
+stage_starts clients client place Idle = nat_lt place.past (length (calls_of clients client))
+stage_starts clients client place (Woken condition) = true
+stage_starts clients client place stage = false
 
 abbrev pub position_starts : List Client → ℕ → Position → Bool
-position_starts clients client one = doing_starts clients client one.place one.doing
+position_starts clients client one = stage_starts clients client one.place one.stage
 
 -- as contracts see it
 abbrev pub free_of : Machine → List Entry → ℕ → FreeMachine

@@ -17,7 +17,7 @@ use Rattle.threads_lock.specs.declared.lent.Wish.{Wish}
 use Rattle.threads_lock.specs.declared.lent.Wish.TheVariants as wishes
 use Rattle.threads_lock.specs.declared.receipt.Receipt.{Receipt}
 use Rattle.threads_lock.specs.declared.view.Knowledge.{Knowledge}
-use Rattle.threads_lock.specs.declared.view.Stage.TheVariants.{Waiting}
+use Rattle.threads_lock.specs.declared.view.SeatState.TheVariants.{Waiting}
 use Rattle.threads_lock.specs.declared.view.View.{View}
 use Rattle.threads_lock.specs.Passes.{IsKnown, Looks, SectionsShared}
 use Rattle.threads_lock.specs.Standings.{StandsAs}
@@ -33,7 +33,7 @@ MayWish wishes.Closed system = Unit {0}
 
 -- the seat waits for the ticket that the program knows modulo 2^64
 abbrev pub WaitsFor : ℕ → Me FreeMachine View → Type 0
-WaitsFor number me = (ticket : ℕ) × (number ≡ ticket % 2 ^ 64) × (me.0.stage ≡ Waiting ticket)
+WaitsFor number me = (ticket : ℕ) × (number ≡ ticket % 2 ^ 64) × (me.0.state ≡ Waiting ticket)
 
 -- a seat that may be lent for the wish
 pub record MayLend (wish : Wish) (number : ℕ) (me : Me FreeMachine View) : Type 0 where

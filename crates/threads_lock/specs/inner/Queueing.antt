@@ -9,8 +9,8 @@ use lib.ListN.{get_elem?}
 use Rattle.atomic_table.specs.Table.{State, Me}
 use Rattle.machine_explicit.specs.Sections.{FreeMachine, HoldsAlways}
 use Rattle.threads_lock.specs.declared.receipt.Receipt.{Receipt}
-use Rattle.threads_lock.specs.declared.view.Stage.{Stage}
-use Rattle.threads_lock.specs.declared.view.Stage.TheVariants.{Idle, Waiting, Holding, Leaving}
+use Rattle.threads_lock.specs.declared.view.SeatState.{SeatState}
+use Rattle.threads_lock.specs.declared.view.SeatState.TheVariants.{Idle, Waiting, Holding, Leaving}
 use Rattle.threads_lock.specs.declared.view.Knowledge.{Knowledge}
 use Rattle.threads_lock.specs.declared.view.View.{View}
 use Rattle.threads_lock.specs.declared.view.Terms.{Terms}
@@ -20,29 +20,29 @@ use Rattle.threads_lock.specs.Closing.{times}
 
 -- ---- seats
 
-abbrev pub view : Stage → ℕ → Knowledge → View
-view stage parts known = record { stage = stage; parts = parts; known = known }
+abbrev pub view : SeatState → ℕ → Knowledge → View
+view state parts known = record { state = state; parts = parts; known = known }
 
-abbrev pub ticket_of : Stage → Option ℕ
+abbrev pub ticket_of : SeatState → Option ℕ
 ticket_of Idle = none
 ticket_of (Waiting ticket) = some ticket
 ticket_of (Holding ticket) = some ticket
 ticket_of (Leaving ticket) = some ticket
 
 -- whether it has the turn, and with it the monitor
-abbrev pub holds : Stage → Bool
+abbrev pub holds : SeatState → Bool
 holds (Holding ticket) = true
 holds (Leaving ticket) = true
-holds stage = false
+holds state = false
 
 -- 1 where it has a ticket
-abbrev pub queued : Stage → ℕ
+abbrev pub queued : SeatState → ℕ
 queued Idle = 0
-queued stage = 1
+queued state = 1
 
 -- the tickets of the sections that were counted are below this number while this view holds the
 -- lock
-abbrev pub limit_of : Stage → ℕ
+abbrev pub limit_of : SeatState → ℕ
 limit_of Idle = 0
 limit_of (Waiting ticket) = 0
 limit_of (Holding ticket) = ticket
@@ -112,13 +112,13 @@ abbrev pub parted : Knowledge → Knowledge
 parted known = record known { receipts = []; joined_fronts = []; looks = 0 }
 
 abbrev pub one_less : View → View
-one_less v = view v.stage (v.parts - 1) v.known
+one_less v = view v.state (v.parts - 1) v.known
 
 abbrev pub one_part : View → View
 one_part v = view Idle 1 (parted v.known)
 
 abbrev pub together : View → View → View
-together v w = view v.stage (v.parts + w.parts) (joined v.known w.known)
+together v w = view v.state (v.parts + w.parts) (joined v.known w.known)
 
 -- a monitor of nothing, which stands for the front of a seat that was joined into another
 abbrev pub nothing : FreeMachine
@@ -148,7 +148,7 @@ newcomer key = view Idle key.passes (newly_known key.start.value)
 
 -- no ticket, and no slot
 abbrev pub IsIdle : Me FreeMachine View → Type 0
-IsIdle me = (me.0.stage ≡ Idle) × (me.1 ≡ [])
+IsIdle me = (me.0.state ≡ Idle) × (me.1 ≡ [])
 
 -- ---- the rule
 
@@ -158,24 +158,24 @@ pub record Fits (served drawn : ℕ) (history : List Receipt) (top : FreeMachine
   where
     pub known : 0 < v.parts → IsKnown v.known × Agrees history top v.known
     pub joined : v.parts ≡ 0 → v ≡ spent
-    pub ticket : (ticket : ℕ) → ticket_of v.stage ≡ some ticket
+    pub ticket : (ticket : ℕ) → ticket_of v.state ≡ some ticket
         → (served ≤ ticket) × (ticket < drawn)
 
 -- no two views have one ticket
 abbrev pub AreApart : List View → Type 0
 AreApart views =
     (i j : ℕ) (v w : View) (ticket : ℕ) → get_elem? views i ≡ some v → get_elem? views j ≡ some w
-    → ticket_of v.stage ≡ some ticket → ticket_of w.stage ≡ some ticket → i ≡ j
+    → ticket_of v.state ≡ some ticket → ticket_of w.state ≡ some ticket → i ≡ j
 
 -- some view has the ticket
 abbrev pub IsHad : List View → ℕ → Type 0
 IsHad views ticket =
-    (j : ℕ) × (v : View) × (get_elem? views j ≡ some v) × (ticket_of v.stage ≡ some ticket)
+    (j : ℕ) × (v : View) × (get_elem? views j ≡ some v) × (ticket_of v.state ≡ some ticket)
 
 -- The tickets that are out are those from the one that is served up to the next, and one view has
 -- each.
 pub record IsQueue (served drawn : ℕ) (views : List View) : Type 0 where
-  pub out : served + total (λ v. queued v.stage) views ≡ drawn
+  pub out : served + total (λ v. queued v.state) views ≡ drawn
   pub apart : AreApart views
   pub had : (ticket : ℕ) → served ≤ ticket → ticket < drawn → IsHad views ticket
 
@@ -183,7 +183,7 @@ pub record IsQueue (served drawn : ℕ) (views : List View) : Type 0 where
 pub record IsFree (served limit : ℕ) (top : FreeMachine) (homes : List (Option FreeMachine))
     (views : List View) : Type 0 where
   pub home : homes ≡ some top ∷ []
-  pub none_holds : (j : ℕ) (v : View) → get_elem? views j ≡ some v → holds v.stage ≡ false
+  pub none_holds : (j : ℕ) (v : View) → get_elem? views j ≡ some v → holds v.state ≡ false
   pub bound : limit ≤ served
 
 -- the monitor is away with the one view that has the turn; it has the ticket that is served, and
@@ -194,11 +194,11 @@ pub record IsTaken (served limit : ℕ) (top : FreeMachine) (homes : List (Optio
   pub holder : ℕ
   pub its_view : View
   pub holder_is : get_elem? views holder ≡ some its_view
-  pub turn : holds its_view.stage ≡ true
-  pub ticket : ticket_of its_view.stage ≡ some served
+  pub turn : holds its_view.state ≡ true
+  pub ticket : ticket_of its_view.state ≡ some served
   pub front : its_view.known.front ≡ top
-  pub bound : limit ≤ limit_of its_view.stage
-  pub only : (j : ℕ) (v : View) → get_elem? views j ≡ some v → holds v.stage ≡ true → j ≡ holder
+  pub bound : limit ≤ limit_of its_view.state
+  pub only : (j : ℕ) (v : View) → get_elem? views j ≡ some v → holds v.state ≡ true → j ≡ holder
 
 pub record Kept (key : Terms) (s : State FreeMachine View) : Type 0 where
   -- the monitor now, the sections so far, and a number above all their tickets

@@ -4,19 +4,19 @@ use Rattle.atomic_table.specs.Table.{Me, Step}
 use Rattle.machine_events.specs.declared.log.Entry.{Entry}
 use Rattle.machine_explicit.specs.Sections.{FreeMachine, HoldsAlways}
 use Rattle.threads_lock.specs.declared.receipt.Receipt.{Receipt}
-use Rattle.threads_lock.specs.declared.view.Stage.{Stage}
-use Rattle.threads_lock.specs.declared.view.Stage.TheVariants.{Idle, Waiting, Holding, Leaving}
+use Rattle.threads_lock.specs.declared.view.SeatState.{SeatState}
+use Rattle.threads_lock.specs.declared.view.SeatState.TheVariants.{Idle, Waiting, Holding, Leaving}
 use Rattle.threads_lock.specs.declared.view.View.{View}
 use Rattle.threads_lock.specs.Passes.{Reaches, looked, observed, receipted}
 use Rattle.threads_lock.specs.inner.Queueing.{view}
 
-abbrev pub staged : Stage → View → View
-staged stage v = view stage v.parts v.known
+abbrev pub in_state : SeatState → View → View
+in_state state v = view state v.parts v.known
 
 -- the view has a ticket, which the word told
 abbrev pub Drew : Step FreeMachine → Me FreeMachine View → ℕ → Me FreeMachine View → Type 0
 Drew step me found next =
-    (ticket : ℕ) × (found ≡ ticket % 2 ^ 64) × (next ≡ (staged (Waiting ticket) me.0, me.1))
+    (ticket : ℕ) × (found ≡ ticket % 2 ^ 64) × (next ≡ (in_state (Waiting ticket) me.0, me.1))
 
 abbrev pub has_at : ℕ → FreeMachine → View → View
 has_at ticket top v = view (Holding ticket) v.parts (looked v.known top)
@@ -31,7 +31,7 @@ pub record HasTurn (ticket : ℕ) (me next : Me FreeMachine View) : Type 0 where
 -- the ticket is served, and the view has the turn; or nothing changed
 abbrev pub Called : Step FreeMachine → Me FreeMachine View → ℕ → Me FreeMachine View → Type 0
 Called step me found next =
-    (ticket : ℕ) → me.0.stage ≡ Waiting ticket
+    (ticket : ℕ) → me.0.state ≡ Waiting ticket
     → (found ≡ ticket % 2 ^ 64 → HasTurn ticket me next) × (found ≢ ticket % 2 ^ 64 → next ≡ me)
 
 -- the receipt of a section that added the entry to the view's front
@@ -46,17 +46,17 @@ told ticket v next entry =
 -- the monitor that the view has, with one entry more than its front, is its front now
 abbrev pub Published : Step FreeMachine → Me FreeMachine View → ℕ → Me FreeMachine View → Type 0
 Published step me found next =
-    (ticket : ℕ) (y : FreeMachine) (entry : Entry) → me.0.stage ≡ Holding ticket
+    (ticket : ℕ) (y : FreeMachine) (entry : Entry) → me.0.state ≡ Holding ticket
     → me.1 ≡ (0, y) ∷ []
     → y.log ≡ me.0.known.front.log ++ entry ∷ [] → next ≡ (told ticket me.0 y entry, me.1)
 
 abbrev pub Released : Step FreeMachine → Me FreeMachine View → ℕ → Me FreeMachine View → Type 0
-Released step me found next = next ≡ (staged Idle me.0, [])
+Released step me found next = next ≡ (in_state Idle me.0, [])
 
 -- the log has this length, no less than what was seen
 pub record Observed (step : Step FreeMachine) (me : Me FreeMachine View) (found : ℕ)
     (next : Me FreeMachine View) : Type 0 where
-  pub now : next ≡ (view me.0.stage me.0.parts (observed me.0.known found), me.1)
+  pub now : next ≡ (view me.0.state me.0.parts (observed me.0.known found), me.1)
   pub seen : me.0.known.seen ≤ found
 
 -- nothing is told to a seat that stands for one that is lent

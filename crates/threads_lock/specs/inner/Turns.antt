@@ -5,17 +5,17 @@ use Rattle.machine_explicit.specs.Sections.{FreeMachine, HoldsAlways, MadeSectio
 use Rattle.machine_explicit.specs.declared.section.Section.{Section}
 use Rattle.machine_explicit.specs.declared.section.NotReady.{NotReady}
 use Rattle.threads_lock.specs.declared.receipt.Receipt.{Receipt}
-use Rattle.threads_lock.specs.declared.view.Stage.TheVariants.{Waiting, Holding}
+use Rattle.threads_lock.specs.declared.view.SeatState.TheVariants.{Waiting, Holding}
 use Rattle.threads_lock.specs.declared.view.View.{View}
 use Rattle.threads_lock.specs.declared.view.Knowledge.{Knowledge}
 use Rattle.threads_lock.specs.Passes.{IsKnown, IsReceipt, Looks, receipted}
 use Rattle.threads_lock.specs.inner.Queueing.{holds}
-use Rattle.threads_lock.specs.inner.Steps.{HasTurn, staged}
+use Rattle.threads_lock.specs.inner.Steps.{HasTurn, in_state}
 
 -- the seat has the ticket that the program knows modulo 2^64
 abbrev pub IsWaiting : ℕ → Me FreeMachine View → Me FreeMachine View → Type 0
 IsWaiting number me next =
-    (ticket : ℕ) × (number ≡ ticket % 2 ^ 64) × (next ≡ (staged (Waiting ticket) me.0, me.1))
+    (ticket : ℕ) × (number ≡ ticket % 2 ^ 64) × (next ≡ (in_state (Waiting ticket) me.0, me.1))
 
 -- the ticket is served, and the seat has the turn
 abbrev pub TurnIsHere : ℕ → Me FreeMachine View → Me FreeMachine View → Type 0
@@ -28,12 +28,12 @@ TurnComes number me next false = next ≡ me
 
 -- the seat has the turn, and the monitor, which is as its front says
 abbrev pub HasMonitor : Me FreeMachine View → Type 0
-HasMonitor me = (holds me.0.stage ≡ true) × (me.1 ≡ (0, me.0.known.front) ∷ [])
+HasMonitor me = (holds me.0.state ≡ true) × (me.1 ≡ (0, me.0.known.front) ∷ [])
 
 -- the seat has the turn by this ticket and has made no section yet
 abbrev pub IsHolding : ℕ → Me FreeMachine View → Type 0
 IsHolding number me =
-    (ticket : ℕ) × (number ≡ ticket % 2 ^ 64) × (me.0.stage ≡ Holding ticket)
+    (ticket : ℕ) × (number ≡ ticket % 2 ^ 64) × (me.0.state ≡ Holding ticket)
     × (me.1 ≡ (0, me.0.known.front) ∷ [])
 
 -- The turn has come by this ticket: a look at the monitor as it is then, with no section yet.

@@ -1,6 +1,6 @@
 use Rattle.std.proofs.Common.{length, ap, sym, refl, ◌∙◌, arith}
 use Rattle.machine_implicit.specs.declared.place.Place.{Place}
-use Rattle.machine_events.specs.Configurations.Phase.{Inside}
+use Rattle.machine_events.specs.declared.event.Stage.TheVariants.{Inside}
 use Rattle.machine_explicit.proofs.Starting.{started_when, started_inside}
 use Rattle.machine_explicit.proofs.MakingEvents.{place_small}
 use Rattle.machine_explicit.proofs.Sectioned.{started_lines, section_told, place_read}

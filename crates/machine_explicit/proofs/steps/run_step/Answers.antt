@@ -1,4 +1,5 @@
-use Rattle.std.proofs.Common.{arith}
+use Rattle.std.proofs.Common.{ap, arith}
+use Rattle.machine_events.specs.declared.event.Stage.TheVariants.{Notifying}
 use Rattle.machine_explicit.proofs.Counting.{call_number_small}
 use Rattle.machine_explicit.proofs.Stepping.{read_call, call_fits_here, block_within, has_run}
 use Rattle.machine_explicit.proofs.steps.run_step.Goals as goal
@@ -30,8 +31,8 @@ go_to_next-requires-clause-past c =
     let at = read_call monitor clients c.args.state.now c.args.client place c.index-clients-client.result c.items.result.now call c.requires.client c.items.ensures c.requires.guard c.index-items-place.is in
     call_number_small clients c.args.client place.past call c.requires.clients at
 
-pub doing_after-position-requires : goal.doing_after-position-requires
-doing_after-position-requires c = block_within c.args.monitor.now c.block_number-block.result _ c.block_number-block.ensures.fits
+pub to_come_after-requires : goal.to_come_after-requires
+to_come_after-requires c = block_within c.args.monitor.now c.block_number-block.result _ c.block_number-block.ensures.fits
 
 pub returns : goal.returns
 returns c =
@@ -40,5 +41,5 @@ returns c =
     let place = c.args.position.now.place in
     let call = c.index-items-place.result in
     let at = read_call monitor clients c.args.state.now c.args.client place c.index-clients-client.result c.items.result.now call c.requires.client c.items.ensures c.requires.guard c.index-items-place.is in
-    has_run monitor clients c.args.client c.args.position.now (record { place = c.go_to_next.new.place; doing = c.doing_after-position.result }) call c.block_number-block.result c.args.state.now c.run_block-reply.new.state
-    c.items-2.result.now c.run_block-reply.new.locals c.run_block-reply.result at c.block_number-block.ensures.number c.items-2.ensures c.run_block-reply.ensures.step c.go_to_next.ensures c.doing_after-position.ensures
+    has_run monitor clients c.args.client c.args.position.now (record { place = c.go_to_next.new.place; stage = Notifying c.to_come_after.result }) call c.block_number-block.result c.args.state.now c.run_block-reply.new.state
+    c.items-2.result.now c.run_block-reply.new.locals c.run_block-reply.result at c.block_number-block.ensures.number c.items-2.ensures c.run_block-reply.ensures.step c.go_to_next.ensures (ap Notifying c.to_come_after.ensures)

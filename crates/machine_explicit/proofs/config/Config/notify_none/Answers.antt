@@ -26,4 +26,4 @@ pass-requires-2-clause-nobody c =
     let comes : Comes (machine_of i.monitor i.plan i.scripts i.state i.owner i.commits.items i.positions.items) c.args.client c.in-Some.coming = rw (← c.self.view_is) at c.in-Some.ensures.comes in
     let here = coming_made i.monitor i.plan i.scripts i.state i.owner i.commits.items i.positions.items c.args.client c.in-Some.coming.next comes.0 in
     let none = rw c.deref.ensures.value at (sym c.if-some_waits.ensures) in
-    rw (← c.self.view_is) (here.place, c.in-Some.coming.next.note, here.more, stands_next i.plan i.positions.items c.args.client c.in-Some.coming.next here, inr (none_waits_made i.plan i.positions.items c.in-Some.coming.next.note.condition none))
+    rw (← c.self.view_is) (here.place, c.in-Some.coming.next.note, here.first.more, stands_next i.plan i.positions.items c.args.client c.in-Some.coming.next here, inr (none_waits_made i.plan i.positions.items c.in-Some.coming.next.note.condition none))

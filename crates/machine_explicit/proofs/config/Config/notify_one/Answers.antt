@@ -1,5 +1,5 @@
 use Rattle.std.proofs.Common.{sym, refl, ◌∙◌, Some}
-use Rattle.machine_explicit.specs.declared.position.Doing.TheVariants as doings
+use Rattle.machine_events.specs.declared.event.Stage.TheVariants.{Waiting}
 use Rattle.machine_explicit.specs.inner.Waiting.{Comes}
 use Rattle.machine_explicit.specs.inner.Positions.{machine_of}
 use Rattle.machine_explicit.proofs.Making.{position_stands}
@@ -36,4 +36,4 @@ pub wake_one-requires-clause-waits : goal.wake_one-requires-clause-waits
 wake_one-requires-clause-waits c =
     let i = c.self.inside in
     let waits = rw c.deref.ensures.value at c.in-Some-waiting_on.ensures in
-    rw (← c.self.view_is) (c.in-Some-waiting_on._place.now, position_stands i.plan i.positions.items c.args.target c.in-Some-waiting_on._place.now (doings.Waiting c.in-Some.coming.next.note.condition) waits)
+    rw (← c.self.view_is) (c.in-Some-waiting_on._place.now, position_stands i.plan i.positions.items c.args.target c.in-Some-waiting_on._place.now (Waiting c.in-Some.coming.next.note.condition) waits)

@@ -1,5 +1,6 @@
 use Rattle.std.proofs.Common.{ap, arith, None}
 use Rattle.machine_events.specs.declared.event.Event.TheVariants as events
+use Rattle.machine_events.specs.declared.event.Stage.TheVariants.{Notifying}
 use Rattle.machine_explicit.specs.Machines.{Machine}
 use Rattle.machine_explicit.specs.inner.Waiting.{IsComing, Passes}
 use Rattle.machine_explicit.specs.inner.Positions.{machine_of}
@@ -19,7 +20,7 @@ invariant_of-self c =
     let i = c.self.inside in
     let coming : IsComing (machine_of i.monitor i.plan i.scripts i.state i.owner i.commits.items i.positions.items) c.args.client c.args.next = rw (← c.self.view_is) at c.requires.next in
     let here = coming_made i.monitor i.plan i.scripts i.state i.owner i.commits.items i.positions.items c.args.client c.args.next coming in
-    let same = lent_place i.positions.items c.args.client here.place here.doing c.index_mut.result.now here.at c.index_mut.ensures.value in
+    let same = lent_place i.positions.items c.args.client here.place (Notifying here.to_come) c.index_mut.result.now here.at c.index_mut.ensures.value in
     let passes : Passes (machine_of i.monitor i.plan i.scripts i.state i.owner i.commits.items i.positions.items) c.args.client = rw (← c.self.view_is) at c.requires.nobody in
     let before = machine_of i.monitor i.plan i.scripts i.state i.owner i.commits.items i.positions.items in
     rw (← same) (
@@ -32,6 +33,6 @@ returns c =
     let i = c.self.inside in
     let coming : IsComing (machine_of i.monitor i.plan i.scripts i.state i.owner i.commits.items i.positions.items) c.args.client c.args.next = rw (← c.self.view_is) at c.requires.next in
     let here = coming_made i.monitor i.plan i.scripts i.state i.owner i.commits.items i.positions.items c.args.client c.args.next coming in
-    let same = lent_place i.positions.items c.args.client here.place here.doing c.index_mut.result.now here.at c.index_mut.ensures.value in
+    let same = lent_place i.positions.items c.args.client here.place (Notifying here.to_come) c.index_mut.result.now here.at c.index_mut.ensures.value in
     let passes : Passes (machine_of i.monitor i.plan i.scripts i.state i.owner i.commits.items i.positions.items) c.args.client = rw (← c.self.view_is) at c.requires.nobody in
     (ap (λ (m : Machine). m.system) c.self.view_is, rw (← c.self.view_is, ← same) (passed i.monitor i.plan i.scripts i.state i.owner i.commits.items i.positions.items c.args.client c.args.next passes here))

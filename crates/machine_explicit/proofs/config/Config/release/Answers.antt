@@ -1,5 +1,6 @@
 use Rattle.std.proofs.Common.{ap, arith}
 use Rattle.machine_events.specs.declared.event.Event.TheVariants as events
+use Rattle.machine_events.specs.declared.event.Stage.TheVariants.{Notifying}
 use Rattle.machine_explicit.specs.Machines.{Machine}
 use Rattle.machine_explicit.specs.inner.Positions.{machine_of}
 use Rattle.machine_explicit.specs.inner.Waiting.{CanUnlock}
@@ -12,7 +13,7 @@ index_mut-requires c =
     let i = c.self.inside in
     let can : CanUnlock (machine_of i.monitor i.plan i.scripts i.state i.owner i.commits.items i.positions.items) c.args.client = rw (← c.self.view_is) at c.requires in
     let done = finished_made i.plan i.positions.items c.args.client can.0 can.1 in
-    omega (arith, i.positions.ok.0, position_within i.positions.items c.args.client can.0 done.doing done.at)
+    omega (arith, i.positions.ok.0, position_within i.positions.items c.args.client can.0 (Notifying done.to_come) done.at)
 
 pub invariant_of-self : goal.invariant_of-self
 invariant_of-self c =

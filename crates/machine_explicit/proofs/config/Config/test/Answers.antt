@@ -1,5 +1,5 @@
 use Rattle.std.proofs.Common.{sym, ◌∙◌}
-use Rattle.machine_explicit.specs.declared.position.Doing.TheVariants as doings
+use Rattle.machine_events.specs.declared.event.Stage.TheVariants.{Inside}
 use Rattle.machine_explicit.proofs.Making.{position_stands}
 use Rattle.machine_explicit.proofs.MakingEvents.{left_here, call_here, guard_at, tries_here, inside_made}
 use Rattle.machine_explicit.proofs.config.Config.test.Goals as goal
@@ -39,7 +39,7 @@ returns-then-guard_of_call c =
     let found = rw c.deref.ensures.value at c.in-Some.ensures in
     let here = call_here i.monitor i.plan i.scripts i.state i.owner i.commits.items i.positions.items c.args.client place c.calls.result.now c.index-calls-place.result c.self.invariant.0 found c.calls.ensures.calls c.index-calls-place.is in
     let guard = guard_at (record { monitor = i.monitor; plan = i.plan; clients = i.scripts }) i.state c.args.client place c.index-calls-place.result here.is in
-    rw (← c.self.view_is) (place, position_stands i.plan i.positions.items c.args.client place doings.Inside found, guard ∙ sym c.if-guard_of_call.ensures)
+    rw (← c.self.view_is) (place, position_stands i.plan i.positions.items c.args.client place Inside found, guard ∙ sym c.if-guard_of_call.ensures)
 
 pub returns-then-is_first_try : goal.returns-then-is_first_try
 returns-then-is_first_try c =
@@ -50,7 +50,7 @@ returns-then-is_first_try c =
     let guard = guard_at (record { monitor = i.monitor; plan = i.plan; clients = i.scripts }) i.state c.args.client place c.index-calls-place.result here.is in
     rw (← c.self.view_is) (
       place,
-      position_stands i.plan i.positions.items c.args.client place doings.Inside found,
+      position_stands i.plan i.positions.items c.args.client place Inside found,
       (guard ∙ sym c.if-guard_of_call.ensures, tries_here i.scripts c.args.client place c.index-calls-place.result here.is ∙ sym c.if-is_first_try.ensures),
     )
 
@@ -63,6 +63,6 @@ returns c =
     let guard = guard_at (record { monitor = i.monitor; plan = i.plan; clients = i.scripts }) i.state c.args.client place c.index-calls-place.result here.is in
     rw (← c.self.view_is) (
       place,
-      position_stands i.plan i.positions.items c.args.client place doings.Inside found,
+      position_stands i.plan i.positions.items c.args.client place Inside found,
       (guard ∙ sym c.if-guard_of_call.ensures, tries_here i.scripts c.args.client place c.index-calls-place.result here.is ∙ sym c.if-is_first_try.ensures),
     )

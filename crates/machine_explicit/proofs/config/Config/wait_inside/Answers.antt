@@ -1,7 +1,7 @@
 use Rattle.std.proofs.Common.{ap, inl}
 use Rattle.machine_events.specs.declared.event.Event.TheVariants as events
 use Rattle.machine_explicit.specs.declared.config.Way.TheVariants as ways
-use Rattle.machine_explicit.specs.declared.position.Doing.TheVariants as doings
+use Rattle.machine_events.specs.declared.event.Stage.TheVariants.{Inside}
 use Rattle.machine_explicit.specs.Machines.{Machine}
 use Rattle.machine_explicit.specs.inner.Positions.{machine_of}
 use Rattle.machine_explicit.specs.inner.Waiting.{Goes}
@@ -74,7 +74,7 @@ returns-clause-condition c =
     let event = waits i.monitor i.plan i.scripts i.state i.owner i.commits.items i.positions.items c.args.client one.place c.condition_of-condition.result here.at here.is.0 here.is.1 condition in
     let next = event_keeps_machine (events.Wait c.args.client) (machine_of i.monitor i.plan i.scripts i.state i.owner i.commits.items i.positions.items) _ c.self.invariant.0 (one.place, inl event) in
     waits_on_one _ c.args.client one.place c.condition_of-condition.result next
-    (waits_now i.plan i.positions.items c.args.client one.place c.condition_of-condition.result (position_stands i.plan i.positions.items c.args.client one.place doings.Inside here.at))
+    (waits_now i.plan i.positions.items c.args.client one.place c.condition_of-condition.result (position_stands i.plan i.positions.items c.args.client one.place Inside here.at))
 
 pub returns-clause-rule : goal.returns-clause-rule
 returns-clause-rule c =

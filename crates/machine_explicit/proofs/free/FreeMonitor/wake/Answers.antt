@@ -1,6 +1,6 @@
 use Rattle.std.proofs.Common.{◌<◌, length, ap, sym, refl, ◌∙◌, arith}
 use Rattle.machine_events.specs.declared.event.Event.TheVariants as events
-use Rattle.machine_events.specs.Configurations.Phase.{Waiting}
+use Rattle.machine_events.specs.declared.event.Stage.TheVariants.{Waiting}
 use Rattle.machine_implicit.specs.declared.place.Place.{Place}
 use Rattle.machine_explicit.specs.Sections.{FreeMachine}
 use Rattle.machine_explicit.proofs.MakingEvents.{place_small}

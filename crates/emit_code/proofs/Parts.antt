@@ -1,4 +1,4 @@
--- The block that a thread is at in its call, and the stages of the code.
+-- The block that a thread is at in its call, and the parts of the code.
 use Rattle.std.proofs.Common.{◌≡◌, ◌==◌, ℕ, zero, suc, ◌+◌, ◌-◌, ◌<◌, ◌≤◌, ◌⊎◌, Bool, true, false, cond, not, ◌&&◌, ◌||◌, List, [], ◌∷◌, ◌++◌, Option, Some, None, refl, sym, ap, subst, ◌∙◌, arith, inl, inr}
 use Rattle.std.specs.Prelude.{All, slice_get}
 use Rattle.std.specs.List.{list_any}
@@ -23,7 +23,7 @@ use Rattle.machine_implicit.specs.Places.{block_at, inputs_at, tries_at, FitsPla
 use Rattle.machine_implicit.proofs.Fitting.{at_index, all_at, calls_fit}
 use Rattle.machine_events.specs.declared.plan.Note.{Note}
 use Rattle.machine_events.specs.Configurations.{System, guard_of, block_condition, waited_condition}
-use Rattle.machine_events.specs.Configurations.Phase.{Inside, Notifying}
+use Rattle.machine_events.specs.declared.event.Stage.TheVariants.{Inside, Notifying}
 use Rattle.machine_events.specs.Pending.{IsSystem}
 use Rattle.machine_events.proofs.Facing.{Faces, faces, guard_is, has_condition, own_guard}
 use Rattle.emit_code.specs.Code.{Op, is_always_step, is_always, is_waited_on, is_guarded, telling_code, test_code, running_code, blocks_code, code_with}
@@ -31,7 +31,7 @@ use Rattle.emit_code.specs.Code.Op.{Lock, WaitUntil, ElseRefuse, Run, Notify, Un
 use Rattle.emit_code.specs.Executions.{Program, Moment, Frame, is_open, program_with, at_once, telling_then, recovers, tries_there, is_called_for, untested, called_for}
 use Rattle.emit_code.specs.Executions.Position.{At}
 use Rattle.emit_code.specs.Orders.{notes_to_come, is_free, is_locked}
-use Rattle.emit_code.proofs.Views.{next_block, number_at, place_by, phase_at}
+use Rattle.emit_code.proofs.Views.{next_block, number_at, place_by, stage_at}
 
 -- ---- where a thread is in its call
 
@@ -245,14 +245,14 @@ pub next_locked : (system : System) (told : ℕ → List Op) (tries : Bool) (blo
 next_locked system told tries block left = next_passed system told block left (tries || block_condition system.monitor block == 0) (is_guarded system.monitor block)
 
 inside_passed : (system : System) (told : ℕ → List Op) (block left : ℕ) (tries tested : Bool)
-    → phase_at (At (cond tested (cond tries (ElseRefuse block ∷ passed_code system told block left) (WaitUntil block (block_condition system.monitor block) ∷ passed_code system told block left))
+    → stage_at (At (cond tested (cond tries (ElseRefuse block ∷ passed_code system told block left) (WaitUntil block (block_condition system.monitor block) ∷ passed_code system told block left))
     (passed_code system told block left))) ≡ Inside
 inside_passed system told block left true true = refl
 inside_passed system told block left false true = refl
 inside_passed system told block left true false = refl
 inside_passed system told block left false false = refl
 
-pub inside_locked : (system : System) (told : ℕ → List Op) (tries : Bool) (block left : ℕ) → phase_at (At (locked_code system told tries block left)) ≡ Inside
+pub inside_locked : (system : System) (told : ℕ → List Op) (tries : Bool) (block left : ℕ) → stage_at (At (locked_code system told tries block left)) ≡ Inside
 inside_locked system told tries block left = inside_passed system told block left (tries || block_condition system.monitor block == 0) (is_guarded system.monitor block)
 
 -- ---- what comes after a body, until the mutex is locked again
@@ -468,17 +468,17 @@ then_notes (note ∷ notes) rest = ap (λ (more : List Note). note ∷ more) (th
 pub again_notes : (program : Program) (thread : ℕ) (frame : Frame) (block : ℕ) (otherwise : List Note) (rest : List Op) → notes_to_come (recovers program thread frame block otherwise rest) ≡ otherwise
 again_notes program thread frame block otherwise rest = then_notes otherwise _
 
--- ---- the phase of one that tells
+-- ---- the stage of one that tells
 
-pub tells_phase : (ops : List Op) → (now_locked ops ≡ true) ⊎ (now_free ops ≡ true) → phase_at (At ops) ≡ Notifying (notes_to_come ops)
-tells_phase [] shape = refl
-tells_phase (Lock ∷ rest) shape = refl
-tells_phase (WaitUntil block on ∷ rest) (inl is) = never is
-tells_phase (WaitUntil block on ∷ rest) (inr is) = never is
-tells_phase (ElseRefuse block ∷ rest) (inl is) = never is
-tells_phase (ElseRefuse block ∷ rest) (inr is) = never is
-tells_phase (Run block otherwise ∷ rest) (inl is) = never is
-tells_phase (Run block otherwise ∷ rest) (inr is) = never is
-tells_phase (Notify note ∷ rest) shape = refl
-tells_phase (Unlock ∷ rest) shape = refl
-tells_phase (Release notes ∷ rest) shape = refl
+pub tells_stage : (ops : List Op) → (now_locked ops ≡ true) ⊎ (now_free ops ≡ true) → stage_at (At ops) ≡ Notifying (notes_to_come ops)
+tells_stage [] shape = refl
+tells_stage (Lock ∷ rest) shape = refl
+tells_stage (WaitUntil block on ∷ rest) (inl is) = never is
+tells_stage (WaitUntil block on ∷ rest) (inr is) = never is
+tells_stage (ElseRefuse block ∷ rest) (inl is) = never is
+tells_stage (ElseRefuse block ∷ rest) (inr is) = never is
+tells_stage (Run block otherwise ∷ rest) (inl is) = never is
+tells_stage (Run block otherwise ∷ rest) (inr is) = never is
+tells_stage (Notify note ∷ rest) shape = refl
+tells_stage (Unlock ∷ rest) shape = refl
+tells_stage (Release notes ∷ rest) shape = refl
