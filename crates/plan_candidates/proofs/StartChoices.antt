@@ -1,9 +1,11 @@
 -- A start at which a parameter has its greatest number, and each other one its least.
-use Rattle.std.proofs.Common.{◌≡◌, ℕ, zero, suc, ◌+◌, ◌≤◌, ℤ, pos, Bool, true, false, cond, List, [], ◌∷◌, length, sym, subst, arith, ap, refl, ◌∙◌}
+use Rattle.std.proofs.Common.{◌≡◌, ℕ, zero, suc, ◌+◌, ◌<◌, ◌≤◌, ℤ, pos, Bool, true, false, cond, List, [], ◌∷◌, ◌++◌, length, take, sym, subst, arith, ap, refl, ◌∙◌}
 use Rattle.std.specs.Prelude.{◌==◌, int_le, int_lt, Option, None, Some, IfSome, IsSomeAnd, slice_get, ◌^◌}
 use Rattle.std.specs.List.{All}
 use Rattle.std.proofs.lemmas.Int.{ints}
 use Rattle.std.proofs.lemmas.Bool.{and_parts, and_from}
+use Rattle.std.proofs.lemmas.List.{take_all, take_more}
+use Rattle.std.proofs.lemmas.Option.{get_or_from_slice_get}
 use Rattle.lang_base.specs.Limits.{FIELDS}
 use Rattle.lang_base.specs.declared.value.Value.{Value}
 use Rattle.lang_base.specs.declared.value.Value.TheVariants as values
@@ -16,6 +18,7 @@ use Rattle.lang_monitor.specs.Bodies.{number_of_value}
 use Rattle.lang_monitor.specs.MonitorParts.{HasOrigin, IsChosen}
 use Rattle.lang_monitor.specs.Starts.{Admits, AreStarts, IsStart, MayStart, fits_64}
 use Rattle.plan_candidates.specs.inner.Starts.{LEAST, MOST, least_at, least_found, least_in, least_of, most_at, most_found, most_in, most_of, root_at, root_found, root_of}
+use Rattle.plan_candidates.specs.inner.Edges.{chosen, edge, picked, picked_at, picked_found, picked_from}
 use Rattle.plan_candidates.proofs.StartRanges.{HasItsOrigin, IsRoot, RootIs, StartsAs, as_many, at_start, if_found, number_found, rooted, value_found}
 use Rattle.plan_candidates.proofs.StartTruths.{number_in}
 
@@ -65,30 +68,6 @@ admits_least (limits.AtLeast bound) some is = by_test (int_le bound LEAST) refl 
         (grind (arith, ints), fits bound first second)
 
 -- ---- the values
-
--- the parameter `top` has its greatest number, and each other one its least
-abbrev chosen : Bool → Limit → ℤ
-chosen true limit = most_in limit
-chosen false limit = least_in limit
-
-abbrev picked : Bool → Value → Origin → Value
-picked top own origins.Own = own
-picked top own (origins.Chosen limit) = values.Int (chosen top limit)
-picked top own (origins.Copied parameter) = own
-
-abbrev picked_found : Bool → Option Field → Value
-picked_found top None = values.Int (pos 0)
-picked_found top (Some field) = picked top field.start field.origin
-
-abbrev picked_at : List Field → ℕ → ℕ → Value
-picked_at fields top place = picked_found (root_at fields place == top) (slice_get fields (root_at fields place))
-
-abbrev picked_from : List Field → ℕ → ℕ → List Field → List Value
-picked_from all top number [] = []
-picked_from all top number (field ∷ fields) = picked_at all top number ∷ picked_from all top (suc number) fields
-
-abbrev pub edge : List Field → ℕ → List Value
-edge fields top = picked_from fields top 0 fields
 
 abbrev only_there : Option Field → Value → Option Value
 only_there None value = None
@@ -190,6 +169,54 @@ edge_starts fields own top has opens =
             by_chosen origins.Own is = absurd is
             by_chosen (origins.Chosen limit) is = tt
             by_chosen (origins.Copied parameter) is = absurd is
+
+-- ---- its values are of 64 bits
+
+pub edge_fits : (fields : List Field) (own : List Value) (top place : ℕ) → All (λ (field : Field). fits_64 field.start ≡ true) fields → IsStart fields own → fits_64 (picked_at fields top place) ≡ true
+edge_fits fields own top place fit opens = by_found (root_at fields place) (slice_get fields (root_at fields place)) refl
+  where
+    by_origin : (test : Bool) (field : Field) (origin : Origin) → field.origin ≡ origin → fits_64 field.start ≡ true → (value : Option Value) → IsSomeAnd value (λ one. MayStart own field.start field.origin one)
+        → fits_64 (picked test field.start origin) ≡ true
+    by_origin test field origins.Own is fits value stands = fits
+    by_origin test field (origins.Chosen limit) is fits None stands = absurd stands
+    by_origin test field (origins.Chosen limit) is fits (Some value) stands =
+        let some = some_chosen own limit field.start value (subst (λ (one : Origin). MayStart own field.start one value) is stands) in
+        (admits_chosen limit some.0 test some.1).1
+    by_origin test field (origins.Copied parameter) is fits value stands = fits
+
+    by_found : (root : ℕ) (found : Option Field) → slice_get fields root ≡ found → fits_64 (picked_found (root == top) found) ≡ true
+    by_found root None there = refl
+    by_found root (Some field) there =
+        by_origin (root == top) field field.origin refl (subst (λ (one : Option Field). IfSome one (λ (some : Field). fits_64 some.start ≡ true)) there (if_found (λ (some : Field). fits_64 some.start ≡ true) fields root fit))
+        (slice_get own root) (subst (λ (one : Option Field). StartsAs own one (slice_get own root)) there (at_start own fields own root opens))
+
+-- ---- it is made one value after the other
+
+pub edge_long : (all : List Field) (top number : ℕ) (fields : List Field) → length (picked_from all top number fields) ≡ length fields
+edge_long all top number [] = refl
+edge_long all top number (field ∷ fields) = ap suc (edge_long all top (suc number) fields)
+
+pub edge_more : (fields : List Field) (top place : ℕ) → place < length fields → take (place + 1) (edge fields top) ≡ take place (edge fields top) ++ picked_at fields top place ∷ []
+edge_more fields top place low =
+    let long = edge_long fields top 0 fields in
+    let within : place < length (edge fields top) = omega arith in
+    let there : slice_get (edge fields top) place ≡ Some (picked_at fields top place) = edge_there fields top place ∙ by_found (slice_get fields place) (slice_get_below fields place low) in
+    take_more (edge fields top) place (picked_at fields top place) within
+    ∙ ap (λ (value : Value). take place (edge fields top) ++ value ∷ []) (get_or_from_slice_get (edge fields top) place (picked_at fields top place) (picked_at fields top place) there)
+  where
+    by_found : (found : Option Field) → (found ≡ None → ⊥) → only_there found (picked_at fields top place) ≡ Some (picked_at fields top place)
+    by_found None some = absurd (some refl)
+    by_found (Some field) some = refl
+
+    slice_get_below : (all : List Field) (i : ℕ) → i < length all → slice_get all i ≡ None → ⊥
+    slice_get_below [] i below none = absurd (omega (arith, below))
+    slice_get_below (field ∷ more) zero below none = absurd cc
+    slice_get_below (field ∷ more) (suc i) below none = slice_get_below more i (omega (arith, below)) none
+
+pub edge_all : (fields : List Field) (top count : ℕ) → length fields ≤ count → take count (edge fields top) ≡ edge fields top
+edge_all fields top count long =
+    let same = edge_long fields top 0 fields in
+    take_all count (edge fields top) (omega arith)
 
 -- ---- its numbers
 

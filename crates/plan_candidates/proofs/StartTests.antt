@@ -11,12 +11,14 @@ use Rattle.lang_monitor.specs.declared.candidate.Candidate.TheVariants as candid
 use Rattle.lang_monitor.specs.declared.monitor.Field.{Field}
 use Rattle.lang_monitor.specs.MonitorParts.{MonitorParts, IsMonitor, start_of}
 use Rattle.lang_monitor.specs.Starts.{IsStart}
+use Rattle.lang_monitor.specs.Candidates.{candidate_truth}
 use Rattle.lang_monitor.specs.Triples.{HoldAtStart, IsFalseAtStart, IsTrueAtStart}
 use Rattle.plan_candidates.specs.TrueAtStart.{AreTrueAtStart}
 use Rattle.plan_candidates.specs.inner.Starts.{least_at, most_at, root_at, starts_true}
 use Rattle.plan_candidates.proofs.SomeOf.{filter_contains, some_filter}
 use Rattle.plan_candidates.proofs.StartRanges.{in_range, number_found, number_rooted, truth_stays}
-use Rattle.plan_candidates.proofs.StartChoices.{edge, edge_least, edge_most, edge_starts}
+use Rattle.plan_candidates.specs.inner.Edges.{edge, top_of}
+use Rattle.plan_candidates.proofs.StartChoices.{edge_least, edge_most, edge_starts}
 use Rattle.plan_candidates.proofs.StartTruths.{number_in, at_least_truth, at_most_truth, below_truth, flag_truth_is}
 
 -- ---- numbers
@@ -69,35 +71,39 @@ other_root place = grind arith
 turned : (left right : ℕ) → (left == right) ≡ false → (right == left) ≡ false
 turned left right e = grind arith
 
-below_fails : (monitor : MonitorParts) (left right : ℕ) (same : Bool) → IsMonitor monitor → (root_at monitor.fields left == root_at monitor.fields right) ≡ same
-    → cond same true (int_le (most_at monitor.fields left) (least_at monitor.fields right)) ≡ false → IsFalseAtStart monitor (candidates.Below left right)
-below_fails monitor left right true rule roots e = absurd (true≢false e)
-below_fails monitor left right false rule roots e =
-    let fields : List Field = monitor.fields in
-    let top : ℕ = root_at fields left in
-    let is : IsStart fields (edge fields top) = edge_starts fields (start_of monitor) top rule.origins rule.opens in
-    let first : number_in (edge fields top) left ≡ most_at fields left = edge_most fields left rule.few_fields rule.origins is in
-    let second : number_in (edge fields top) right ≡ least_at fields right = edge_least fields top right (turned top (root_at fields right) roots) rule.few_fields rule.origins is in (
-      edge fields top,
-      is,
-      below_truth (edge fields top) left right ∙ ap (λ (number : ℤ). int_le number (number_in (edge fields top) right)) first ∙ ap (int_le (most_at fields left)) second ∙ e,
-    )
+-- where the monitor starts so, a candidate that does not pass is false
+pub fails_there : (monitor : MonitorParts) (candidate : Candidate) → IsMonitor monitor → starts_true monitor.fields candidate ≡ false
+    → IsStart monitor.fields (edge monitor.fields (top_of monitor.fields candidate)) → candidate_truth (edge monitor.fields (top_of monitor.fields candidate)) candidate ≡ false
+fails_there monitor (candidates.AtMost field bound) rule e is =
+    let start : List Value = edge monitor.fields (root_at monitor.fields field) in
+    at_most_truth start field bound ∙ ap (λ (number : ℤ). int_le number bound) (edge_most monitor.fields field rule.few_fields rule.origins is) ∙ e
+fails_there monitor (candidates.AtLeast field bound) rule e is =
+    let start : List Value = edge monitor.fields (suc (root_at monitor.fields field)) in
+    at_least_truth start field bound
+    ∙ ap (int_le bound) (edge_least monitor.fields (suc (root_at monitor.fields field)) field (other_root (root_at monitor.fields field)) rule.few_fields rule.origins is) ∙ e
+fails_there monitor (candidates.Flag field wanted) rule e is =
+    flag_truth_is (edge monitor.fields 0) field wanted
+    ∙ ap (λ (truth : Bool). cond wanted truth (not truth)) (truth_stays monitor.fields (edge monitor.fields 0) (start_of monitor) field rule.few_fields rule.origins is rule.opens)
+    ∙ sym (flag_truth_is (start_of monitor) field wanted) ∙ e
+fails_there monitor (candidates.Below left right) rule e is = by_roots (root_at monitor.fields left == root_at monitor.fields right) refl e
+  where
+    by_roots : (same : Bool) → (root_at monitor.fields left == root_at monitor.fields right) ≡ same
+        → cond same true (int_le (most_at monitor.fields left) (least_at monitor.fields right)) ≡ false
+        → candidate_truth (edge monitor.fields (root_at monitor.fields left)) (candidates.Below left right) ≡ false
+    by_roots true roots fails = absurd (true≢false fails)
+    by_roots false roots fails =
+        let start : List Value = edge monitor.fields (root_at monitor.fields left) in
+        let first = edge_most monitor.fields left rule.few_fields rule.origins is in
+        let second = edge_least monitor.fields (root_at monitor.fields left) right (turned (root_at monitor.fields left) (root_at monitor.fields right) roots) rule.few_fields rule.origins is in
+        below_truth start left right ∙ ap (λ (number : ℤ). int_le number (number_in start right)) first ∙ ap (int_le (most_at monitor.fields left)) second ∙ fails
+
+pub starts_there : (monitor : MonitorParts) (candidate : Candidate) → IsMonitor monitor → IsStart monitor.fields (edge monitor.fields (top_of monitor.fields candidate))
+starts_there monitor candidate rule = edge_starts monitor.fields (start_of monitor) (top_of monitor.fields candidate) rule.origins rule.opens
 
 pub fails_somewhere : (monitor : MonitorParts) (candidate : Candidate) → IsMonitor monitor → starts_true monitor.fields candidate ≡ false → IsFalseAtStart monitor candidate
-fails_somewhere monitor (candidates.AtMost field bound) rule e =
-    let fields : List Field = monitor.fields in
-    let top : ℕ = root_at fields field in
-    let is : IsStart fields (edge fields top) = edge_starts fields (start_of monitor) top rule.origins rule.opens in
-    let first : number_in (edge fields top) field ≡ most_at fields field = edge_most fields field rule.few_fields rule.origins is in
-    (edge fields top, is, at_most_truth (edge fields top) field bound ∙ ap (λ (number : ℤ). int_le number bound) first ∙ e)
-fails_somewhere monitor (candidates.AtLeast field bound) rule e =
-    let fields : List Field = monitor.fields in
-    let top : ℕ = suc (root_at fields field) in
-    let is : IsStart fields (edge fields top) = edge_starts fields (start_of monitor) top rule.origins rule.opens in
-    let first : number_in (edge fields top) field ≡ least_at fields field = edge_least fields top field (other_root (root_at fields field)) rule.few_fields rule.origins is in
-    (edge fields top, is, at_least_truth (edge fields top) field bound ∙ ap (int_le bound) first ∙ e)
-fails_somewhere monitor (candidates.Flag field wanted) rule e = (start_of monitor, rule.opens, e)
-fails_somewhere monitor (candidates.Below left right) rule e = below_fails monitor left right (root_at monitor.fields left == root_at monitor.fields right) rule refl e
+fails_somewhere monitor candidate rule e =
+    let is = starts_there monitor candidate rule in
+    (edge monitor.fields (top_of monitor.fields candidate), is, fails_there monitor candidate rule e is)
 
 -- ---- one candidate, and some
 

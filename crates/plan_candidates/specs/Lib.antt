@@ -1,3 +1,4 @@
 pub mod Claims
 pub mod inner
 pub mod TrueAtStart
+pub mod FalseStarts

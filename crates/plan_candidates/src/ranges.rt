@@ -26,7 +26,7 @@ pub(crate) fn number_in(limit: Limit) -> i128
 }
 
 /// The least number of 64 bits that a limit admits, where it admits one.
-fn least_in(limit: Limit) -> i128
+pub(crate) fn least_in(limit: Limit) -> i128
     ensures { result ≡ least_in limit }
 {
     match limit {
@@ -37,7 +37,7 @@ fn least_in(limit: Limit) -> i128
 }
 
 /// The greatest number of 64 bits that a limit admits, where it admits one.
-fn most_in(limit: Limit) -> i128
+pub(crate) fn most_in(limit: Limit) -> i128
     ensures { result ≡ most_in limit }
 {
     match limit {

@@ -72,7 +72,7 @@ fn starts_below(fields: &[Field], left: u32, right: u32) -> bool
 }
 
 /// Whether the candidate is true with all values with which the fields may start.
-fn starts_true(fields: &[Field], candidate: Candidate) -> bool
+pub(crate) fn starts_true(fields: &[Field], candidate: Candidate) -> bool
     requires { length fields.now ≤ FIELDS }
     ensures { result ≡ starts_true fields.now candidate }
 {
@@ -117,7 +117,7 @@ pub fn are_true_at_start(monitor: &Monitor, candidates: &[Candidate]) -> bool
 pub fn candidates_have_formulas(monitor: &Monitor)
     ensures { list_all is_expressible (candidates_of monitor.now) ≡ true }
 {
-    candidates_are_expressible();
+    candidates_are_expressible(); // of fields whose starts fit 64 bits, as is read next
     read_starts(monitor.fields());
 }
 
