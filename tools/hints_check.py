@@ -207,6 +207,9 @@ REPORTS = [
     ("one 1 acquire: split 1 split 0", "one 1 acquire: split 2 split 0", "line 8, column 37: expected `split`"),
     ("one 1 acquire: split 1 split 0", "one 1 acquire: spilt 1 split 0", "line 8, column 22: expected `split`"),
     ("one 1 acquire: split 1 split 0", "one 1 acquire: chain 1 0 1 4", "line 8, column 35: expected a number: a row"),
+    ("one 1 acquire: split", "one 1 acquire: cases 1 0 1 below split 0 above split", "line 8, column 34: expected a number: `2"),
+    ("one 1 acquire: split", "one 1 acquire: cases 1 0 1 0 split 0 above split", "line 8, column 36: expected `below`"),
+    ("one 1 acquire: split 1", "one 1 acquire: cases 1 0 1 0 below split 1", "line 8, column 57: expected `above`"),
     ("untested release 1: split 1 split 0\n", "untested release 1: split 1 split 0", "a line feed is missing at the end"),
     ("split 1 split 0\n", "split 1 split 0\nproof none release 2: clash 0 1\n", "line 12, column 1: the report is to end"),
 ]

@@ -11,11 +11,12 @@ import sys
 
 sys.dont_write_bytecode = True
 from fits import answers, question  # noqa: E402
-from formulas import (CONSTANT, Beyond, are_within, combined, forms_of, joined,  # noqa: E402
-                      negated_query, negation, number, row)
+from formulas import (CONSTANT, FORM_BITS, Beyond, are_within, combined, forms_of,  # noqa: E402
+                      joined, negated_query, negation, number, row)
 from monitors import WAITING, candidates_of, holds_at_start, read_monitor  # noqa: E402
 
 MOST_BYTES, CHAIN_BITS, FACTOR = 16777216, 128, (-2 ** 127, 2 ** 127)
+IN_FORM, LEAST_NEGATED = (-2 ** (FORM_BITS - 1), 2 ** (FORM_BITS - 1)), 2 - 2 ** (FORM_BITS - 1)
 KINDS, FIT = ("signal", "broadcast"), "proof fits "
 
 
@@ -127,6 +128,20 @@ def whole(words, least=0, bound=2 ** 32):
     return int(words.pop())
 
 
+def form_read(words):
+    """A form: how many terms, of each its place and number, with rising places, the constant."""
+    terms = [(whole(words), whole(words, *IN_FORM)) for _ in range(whole(words))]
+    places = [place for place, _ in terms]
+    expect(places == sorted(set(places)) and all(times for _, times in terms))
+    return dict(terms) | number(whole(words, *IN_FORM))
+
+
+def side_refutes(words, side, todo, literals):
+    """Whether the certificate of a side of cases refutes what is to do."""
+    expect(words.pop() == side)
+    return refutes(words, todo, literals)
+
+
 def refutes(words, todo, literals):
     """Whether the certificate refutes what is to do, the last first, with the gathered literals."""
     todo, literals, kind = [*todo], [*literals], words.pop()
@@ -143,6 +158,12 @@ def refutes(words, todo, literals):
     if kind == "chain":
         return closes([(whole(words), whole(words, *FACTOR), whole(words), whole(words, *FACTOR))
                        for _ in range(whole(words))], literals)
+    if kind == "cases":
+        form = form_read(words)
+        can = min(form.values(), default=0) >= LEAST_NEGATED
+        above = row(combined(1, number(1), -1, form)) if can else joined("any", [])
+        return all([side_refutes(words, "below", todo + [row(form)], literals),
+                    side_refutes(words, "above", todo + [above], literals), can])
     expect(kind == "split")
     count = whole(words)
     if not todo or len(todo[-1].value) != count:

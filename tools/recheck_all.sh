@@ -28,11 +28,15 @@ reports() {
     sed '$s/: .*/: split 0/' "$made/whole" >"$made/emptied"
     sed 's/clash 0 /clash 1 /; s/chain 1 /chain 1 1/' "$made/whole" >"$made/shifted"
     sed 's/^\(proof \(counts\|gives\|first\) .*: \).*/\1split 1 split 0/' "$made/whole" >"$made/unanswered"
+    sed 's/^\(proof .*: \)\(.*\)/\1cases 1 0 -2 3 below \2 above \2/' "$made/whole" >"$made/cased"
+    sed 's/ above .*//' "$made/cased" >"$made/halved"
     judge 0 "$made/whole"
     judge 1 "$made/shorter"
     judge - "$made/emptied"
     judge - "$made/shifted"
     judge - "$made/unanswered"
+    judge - "$made/cased"
+    judge - "$made/halved"
 }
 
 # fits [--count]: the report with lines of blocks that keep 64 bits, and changed ones

@@ -20,7 +20,8 @@ judge() {
     fi
 }
 
-# nest COUNT SPLIT: the report of the monitor, with so many splits before its first certificate
+# nest COUNT TEXT: the report of the monitor, with the text, of a split or of cases, so often before
+# its first certificate
 nest() {
     local first
     first=$(grep -n -m 1 '^proof ' "$made/whole" | cut -d : -f 1)
@@ -51,11 +52,13 @@ for program in "$PWD/out/expresso_cli" "$PWD/out/expresso_cli.by-rattle"; do
         "$program" compile "$made/monitor" | sed 's/^block m: .*/block m: none/'
         echo "proof none m 1: clash 0 1"
     } >"$made/whole"
-    nest 4200 'split 2 clash 0 1 '
-    judge 0 'accepted 1 claims'
-    if [ "$(../../tools/recheck.py "$made/monitor" "$made/report")" != 'accepted 1 claims' ]; then
-        echo "the second reader does not accept the deep report"
-        exit 1
-    fi
+    for text in 'split 2 clash 0 1 ' 'cases 1 0 1 0 below clash 0 1 above '; do
+        nest 4200 "$text"
+        judge 0 'accepted 1 claims'
+        if [ "$(../../tools/recheck.py "$made/monitor" "$made/report")" != 'accepted 1 claims' ]; then
+            echo "the second reader does not accept the deep report"
+            exit 1
+        fi
+    done
 done
 echo "reports with certificates of 4,200 and 200,000 levels are checked within 2 MB of stack"

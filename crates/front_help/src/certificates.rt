@@ -11,22 +11,31 @@ const FACTOR_DIGITS: usize = 39;
 /// How many numbers a chain has for each row that it makes.
 const NUMBERS_OF_A_ROW: u64 = 4;
 
-/// What may come next in a certificate: so many numbers of a chain's rows are to come, or of a
-/// clash, and so many certificates after them.
+/// For how many certificates that are due it is kept whether `above` comes before them.
+const MOST_SIDES: u64 = 128;
+
+/// What may come next in a certificate: so many numbers of a chain's rows, of a clash or of the
+/// form of cases are to come.
 #[derive(Clone, Copy)]
 enum Next {
     Word,
     Parts,
     Rows,
+    Terms,
+    Below,
+    Above,
     ClashNumbers(u64),
     ChainNumbers(u64),
+    FormNumbers(u64),
 }
 
-/// How far a certificate has been read.
+/// How far a certificate has been read: how many certificates are due, and in `sides` a bit for
+/// each number of them before which `above` comes.
 #[derive(Clone, Copy)]
 struct Reading {
     next: Next,
     due: u64,
+    sides: u128,
 }
 
 /// Where a certificate stops being one, and what is said of the place; nothing where it is whole.
@@ -34,6 +43,7 @@ pub(crate) fn certificate_slip(text: &[u8]) -> Option<(usize, &'static [u8])> {
     let mut reading = Reading {
         next: Next::Word,
         due: 1,
+        sides: 0,
     };
     let mut at = 0;
     for _word in 0..text.len() {
@@ -77,21 +87,33 @@ impl Reading {
             Next::Word => self.after_word(word),
             Next::Parts => {
                 let parts = number_in(word, ROW_DIGITS)?;
-                Some(self.ended().with_due(parts))
+                Some(self.split(parts))
             }
             Next::Rows => {
                 let rows = number_in(word, ROW_DIGITS)?;
                 Some(self.chaining(rows.saturating_mul(NUMBERS_OF_A_ROW)))
             }
+            Next::Terms => {
+                let terms = number_in(word, ROW_DIGITS)?;
+                Some(self.forming(terms.saturating_mul(2).saturating_add(1)))
+            }
+            Next::Below => self.going_on(word, b"below"),
+            Next::Above => self.going_on(word, b"above"),
             Next::ClashNumbers(left) => {
                 let _row = number_in(word, ROW_DIGITS)?;
                 Some(self.clashing(left.saturating_sub(1)))
             }
             Next::ChainNumbers(left) => {
-                if !is_number_of_chain(word, left) {
+                if !is_number_of_pair(word, left % 2 == 0) {
                     return None;
                 }
                 Some(self.chaining(left.saturating_sub(1)))
+            }
+            Next::FormNumbers(left) => {
+                if !is_number_of_pair(word, left % 2 == 1 && left > 1) {
+                    return None;
+                }
+                Some(self.forming(left.saturating_sub(1)))
             }
         }
     }
@@ -104,6 +126,19 @@ impl Reading {
             Some(self.clashing(2))
         } else if word == b"chain".as_slice() {
             Some(self.going_to(Next::Rows))
+        } else if word == b"cases".as_slice() {
+            Some(self.going_to(Next::Terms))
+        } else if self.due >= MOST_SIDES {
+            self.going_on(word, b"above")
+        } else {
+            None
+        }
+    }
+
+    /// The word of a side, after which a certificate comes.
+    fn going_on(self, word: &[u8], side: &[u8]) -> Option<Reading> {
+        if word == side {
+            Some(self.going_to(Next::Word))
         } else {
             None
         }
@@ -114,22 +149,35 @@ impl Reading {
         Reading {
             next,
             due: self.due,
+            sides: self.sides,
         }
     }
 
     /// One certificate fewer is due.
     fn ended(self) -> Reading {
+        let due = self.due.saturating_sub(1);
+        let side = side_at(due);
+        let next = if self.sides & side == 0 {
+            Next::Word
+        } else {
+            Next::Above
+        };
         Reading {
-            next: Next::Word,
-            due: self.due.saturating_sub(1),
+            next,
+            due,
+            sides: self.sides & !side,
         }
     }
 
-    /// So many more certificates are due.
-    fn with_due(self, more: u64) -> Reading {
+    /// The certificates of so many parts are due.
+    fn split(self, parts: u64) -> Reading {
+        if parts == 0 {
+            return self.ended();
+        }
         Reading {
-            next: self.next,
-            due: self.due.saturating_add(more),
+            next: Next::Word,
+            due: self.due.saturating_add(parts - 1),
+            sides: self.sides,
         }
     }
 
@@ -151,13 +199,32 @@ impl Reading {
         }
     }
 
+    /// So many numbers of a form are to come, and then both sides.
+    fn forming(self, left: u64) -> Reading {
+        if left == 0 {
+            Reading {
+                next: Next::Below,
+                due: self.due.saturating_add(1),
+                sides: self.sides | side_at(self.due),
+            }
+        } else {
+            self.going_to(Next::FormNumbers(left))
+        }
+    }
+
     /// What is said of a place at which this can't go on.
     fn said(self) -> &'static [u8] {
         match self.next {
-            Next::Word => b"expected `split`, `clash` or `chain`",
+            Next::Word => b"expected `split`, `clash`, `chain` or `cases`",
             Next::Parts => b"expected a number: into how many parts it splits",
             Next::Rows => b"expected a number: how many rows the chain makes",
+            Next::Terms => b"expected a number: how many terms the form has",
+            Next::Below => b"expected `below`: the certificate where the form is at most 0",
+            Next::Above => b"expected `above`: the certificate where the form is at least 1",
             Next::ClashNumbers(_) => b"expected the number of a row or a flag",
+            Next::FormNumbers(_) => {
+                b"expected a number: `2 0 4 1 -1 7` is 4 times place 0, -1 times place 1, and 7"
+            }
             Next::ChainNumbers(_) => {
                 b"expected a number: a row is made as `0 1 4 1`, row 0 once and row 4 once"
             }
@@ -165,9 +232,14 @@ impl Reading {
     }
 }
 
-/// Whether this is the number of a row, or a factor, where so many numbers of a chain are to come.
-fn is_number_of_chain(word: &[u8], left: u64) -> bool {
-    if left % 2 == 0 {
+/// The bit of so many certificates that are due.
+fn side_at(due: u64) -> u128 {
+    if due < MOST_SIDES { 1 << due } else { 0 }
+}
+
+/// Whether this is the number of a row or a place, where one is due, and else a factor.
+fn is_number_of_pair(word: &[u8], is_place: bool) -> bool {
+    if is_place {
         return number_in(word, ROW_DIGITS).is_some();
     }
     match word.strip_prefix(b"-") {

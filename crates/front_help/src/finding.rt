@@ -32,7 +32,7 @@ pub(crate) fn scripts_in(
 {
     let tokens = tokens(alloc, bytes)?;
     let tree = parse_clients(alloc, bytes, &tokens)?;
-    names_are_identifiers();
+    names_are_identifiers(); // those of a tree that was read, as `clients` asks
     let scripts = clients(alloc, &tree, monitor)?;
     Ok(scripts)
 }

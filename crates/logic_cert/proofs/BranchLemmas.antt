@@ -1,22 +1,30 @@
 -- Branches of a refutation that are still to follow.
-use Rattle.std.proofs.Common.{◌≡◌, Bor, sum, ℕ, suc, ◌+◌, ◌-◌, ◌<◌, ◌≤◌, Bool, true, false, ◌&&◌, length, get_or, take, drop, List, [], ◌∷◌, ◌++◌, map, sym, arith, ap, refl, ◌∙◌, length-take}
+use Rattle.std.proofs.Common.{◌≡◌, Bor, sum, ℕ, suc, ◌+◌, ◌-◌, ◌<◌, ◌≤◌, Bool, true, false, ◌&&◌, length, get_or, take, drop, List, [], ◌∷◌, ◌++◌, map, Option, None, Some, Result, Ok, Err, IfOk, sym, subst, arith, ap, refl, ◌∙◌, length-take}
+use Rattle.std.specs.declared.alloc.AllocError.{AllocError}
 use Rattle.std.specs.Global.{Vec}
 use Rattle.std.specs.List.{fold}
 use Rattle.std.proofs.lemmas.List.{at_drop_more, take_more}
 use Rattle.std.proofs.lemmas.List.Folds.{list_all-append}
-use Rattle.logic_linear.specs.declared.formula.Formula.{Formula}
+use Rattle.logic_linear.specs.declared.formula.Formula.{Formula, out-Formula}
+use Rattle.logic_linear.specs.declared.formula.Formula.TheOpen.{Formula-F}
+use Rattle.logic_linear.specs.declared.formula.Formula.TheViews.{roll-Formula, out-roll-Formula, roll-out-Formula}
 use Rattle.logic_linear.specs.declared.formula.Formula.TheVariants as formulas
 use Rattle.logic_linear.specs.declared.formula.Formula.TheOpen as layers
 use Rattle.logic_linear.specs.declared.formula.Formula.TheFolds.{fold-roll-Formula}
 use Rattle.logic_linear.specs.Linear.{Linear}
+use Rattle.logic_linear.specs.Negation.{can_negate_linear, one_less}
 use Rattle.logic_linear.specs.Measures.{nodes_of, nodes_layer}
 use Rattle.logic_cert.specs.declared.acceptance.Branch.{Branch}
 use Rattle.logic_cert.specs.declared.cert.Literal.{Literal}
 use Rattle.logic_cert.specs.declared.cert.Literal.TheVariants.{Row, Flag}
 use Rattle.logic_cert.specs.declared.cert.Cert.{Cert, out-Cert}
-use Rattle.logic_cert.specs.inner.Branches.{stack_on, shown, stack_of, weight, weight_of, total, size_of, sizes_of, branch_refutes, all_refute, branches_size, any_refutes, Shrinks}
-use Rattle.logic_cert.specs.inner.Deciding.{Todo, done, before, in_order, each_way, at_any}
-use Rattle.logic_cert.proofs.DecidingLemmas.{row_before, flag_before, all_before, any_before}
+use Rattle.logic_cert.specs.declared.cert.Combine.{Combine}
+use Rattle.logic_cert.specs.declared.cert.Cert.TheVariants as certificates
+use Rattle.logic_cert.specs.Refutes.{closes}
+use Rattle.logic_cert.specs.inner.Branches.{stack_on, shown, stack_of, weight, weight_of, total, size_of, sizes_of, branch_refutes, all_refute, branches_size, any_refutes, any_parts, parts_layer, is_some, is_paused, Replaces, Shrinks}
+use Rattle.logic_cert.specs.inner.Deciding.{Ends, Todo, done, by_cases, before, in_order, each_way, at_any}
+use Rattle.logic_cert.proofs.CertForms.{by_both, by_chain, by_clash, by_split, chain_out, clash_out}
+use Rattle.logic_cert.proofs.DecidingLemmas.{row_before, flag_before, all_before, any_before, Closing, any_closing, done_closing}
 
 -- ---- formulas to do
 
@@ -110,10 +118,107 @@ pub all_shrinks : (todo rest after : List (Bor Formula)) (formula : Bor Formula)
 all_shrinks todo rest after formula parts slice is shaped same weighs =
     let e = popped_weighs todo rest formula (formulas.All parts) is shaped in let f = all_nodes parts in let g = ap weight same in omega arith
 
-pub any_reached : (whole : Bool) (todo rest : List (Bor Formula)) (formula : Bor Formula) (parts slice : List Formula) (literals : List Literal) (cert : Cert) → whole ≡ stack_of todo literals cert → todo ≡ rest ++ formula ∷ [] → formula.now ≡ formulas.Any parts → slice ≡ parts
-    → whole ≡ at_any (map before slice) (stack_of rest) literals (out-Cert cert)
-any_reached whole todo rest formula parts slice literals cert e is shaped same =
-    e ∙ ap (λ (way : Todo). way literals cert) (popped todo rest formula (formulas.Any parts) is shaped) ∙ any_before parts (stack_of rest) literals cert ∙ ap (λ (n : List Formula). at_any (map before n) (stack_of rest) literals (out-Cert cert)) (sym same)
+-- ---- an any that is next
+
+pub any_stays : (whole : Bool) (todo rest after : List (Bor Formula)) (formula : Bor Formula) (literals : List Literal) (cert : Cert) → whole ≡ stack_of todo literals cert → todo ≡ rest ++ formula ∷ [] → after ≡ rest ++ formula ∷ []
+    → whole ≡ stack_of after literals cert
+any_stays whole todo rest after formula literals cert e is push = e ∙ ap (λ (some : List (Bor Formula)). stack_of some literals cert) (is ∙ sym push)
+
+paused_push : (rest : List (Bor Formula)) (any : Bor Formula) → is_paused (rest ++ any ∷ []) ≡ is_some (any_parts any.now)
+paused_push [] any = refl
+paused_push (first ∷ []) any = refl
+paused_push (first ∷ second ∷ rest) any = paused_push (second ∷ rest) any
+
+parts_are : (formula : Formula) (parts : List Formula) → formula ≡ formulas.Any parts → any_parts formula ≡ Some parts
+parts_are formula parts is = ap any_parts (is ∙ sym (formulas.rolls-Any parts)) ∙ ap parts_layer (out-roll-Formula (layers.Any parts))
+
+any_layer : (formula : Formula) (layer : Formula-F Formula) (parts : List Formula) → formula ≡ roll-Formula layer → parts_layer layer ≡ Some parts → formula ≡ formulas.Any parts
+any_layer formula (layers.Row form) parts is h = absurd cc
+any_layer formula (layers.Flag place truth) parts is h = absurd cc
+any_layer formula (layers.All some) parts is h = absurd cc
+any_layer formula (layers.Any some) parts is h = let same : some ≡ parts = cc in is ∙ formulas.rolls-Any some ∙ ap formulas.Any same
+
+pub any_paused : (rest after : List (Bor Formula)) (formula : Bor Formula) (parts : List Formula) → after ≡ rest ++ formula ∷ [] → formula.now ≡ formulas.Any parts → is_paused after ≡ true
+any_paused rest after formula parts push shaped = ap is_paused push ∙ paused_push rest formula ∙ ap is_some (parts_are formula.now parts shaped)
+
+pub not_paused : (todo rest : List (Bor Formula)) (any : Bor Formula) → todo ≡ rest ++ any ∷ [] → any_parts any.now ≡ None → is_paused todo ≡ true → ⊥
+not_paused todo rest any is none paused = let no : false ≡ true = sym (ap is_paused is ∙ paused_push rest any ∙ ap is_some none) ∙ paused in absurd cc
+
+-- what ends the work where no literal is next
+pub record Pauses (todo : List (Bor Formula)) : Type 0 where
+  pub ends : Ends
+  pub closing : Closing ends
+  pub is : (literals : List Literal) (cert : Cert) → stack_of todo literals cert ≡ by_cases ends literals cert
+
+pauses_any : (rest : List (Bor Formula)) (any : Bor Formula) (parts : List Formula) → any_parts any.now ≡ Some parts → Pauses (rest ++ any ∷ [])
+pauses_any rest any parts is = record {
+  ends = at_any (map before parts) (stack_of rest);
+  closing = any_closing (map before parts) (stack_of rest);
+  is = λ literals cert.
+      ap (λ (way : Todo). way literals cert) (stack_of_push rest any ∙ ap (λ (n : Formula). before n (stack_of rest)) (any_layer any.now (out-Formula any.now) parts (sym (roll-out-Formula any.now)) is))
+      ∙ any_before parts (stack_of rest) literals cert;
+}
+
+data Last (todo : List (Bor Formula)) : Type 0 where
+  nothing : todo ≡ [] → Last todo
+  the_last : (rest : List (Bor Formula)) (formula : Bor Formula) → todo ≡ rest ++ formula ∷ [] → Last todo
+
+last_of : (todo : List (Bor Formula)) → Last todo
+last_of [] = nothing refl
+last_of (first ∷ todo) = by (last_of todo)
+  where
+    by : Last todo → Last (first ∷ todo)
+    by (nothing is) = the_last [] first (ap (λ (n : List (Bor Formula)). first ∷ n) is)
+    by (the_last rest formula is) = the_last (first ∷ rest) formula (ap (λ (n : List (Bor Formula)). first ∷ n) is)
+
+pub pauses : (todo : List (Bor Formula)) → is_paused todo ≡ true → Pauses todo
+pauses todo paused = by (last_of todo)
+  where
+    of_any : (rest : List (Bor Formula)) (any : Bor Formula) (parts : Option (List Formula)) → any_parts any.now ≡ parts → is_some parts ≡ true → Pauses (rest ++ any ∷ [])
+    of_any rest any None is some = absurd cc
+    of_any rest any (Some parts) is some = pauses_any rest any parts is
+
+    by : Last todo → Pauses todo
+    by (nothing is) = subst Pauses (sym is) (record { ends = closes; closing = done_closing; is = λ literals cert. refl })
+    by (the_last rest any is) = subst Pauses (sym is) (of_any rest any (any_parts any.now) refl (sym (ap is_paused is ∙ paused_push rest any) ∙ paused))
+
+pub clash_there : (todo : List (Bor Formula)) (literals : List Literal) (cert : Cert) (left right : ℕ) → is_paused todo ≡ true → cert ≡ certificates.Clash left right → stack_of todo literals cert ≡ closes literals (out-Cert cert)
+clash_there todo literals cert left right paused is =
+    let p = pauses todo paused in
+    p.is literals cert ∙ ap (by_cases p.ends literals) is ∙ by_clash p.ends literals left right ∙ p.closing.0 literals left right ∙ sym (ap (closes literals) (ap out-Cert is ∙ clash_out left right))
+
+pub chain_there : (todo : List (Bor Formula)) (literals : List Literal) (cert : Cert) (combines : List Combine) → is_paused todo ≡ true → cert ≡ certificates.Chain combines → stack_of todo literals cert ≡ closes literals (out-Cert cert)
+chain_there todo literals cert combines paused is =
+    let p = pauses todo paused in
+    p.is literals cert ∙ ap (by_cases p.ends literals) is ∙ by_chain p.ends literals combines ∙ p.closing.1 literals combines ∙ sym (ap (closes literals) (ap out-Cert is ∙ chain_out combines))
+
+pub cases_there : (todo : List (Bor Formula)) (literals : List Literal) (cert : Cert) (form : Linear) (below above : Cert) → is_paused todo ≡ true → cert ≡ certificates.Cases form below above
+    → stack_of todo literals cert ≡ (can_negate_linear form && (stack_of todo (literals ++ Row form ∷ []) below && stack_of todo (literals ++ Row (one_less form) ∷ []) above))
+cases_there todo literals cert form below above paused is =
+    let p = pauses todo paused in
+    p.is literals cert ∙ ap (by_cases p.ends literals) is ∙ by_both p.ends literals form below above
+    ∙ ap (λ (low : Bool). can_negate_linear form && (low && by_cases p.ends (literals ++ Row (one_less form) ∷ []) above)) (sym (p.is (literals ++ Row form ∷ []) below))
+    ∙ ap (λ (high : Bool). can_negate_linear form && (stack_of todo (literals ++ Row form ∷ []) below && high)) (sym (p.is (literals ++ Row (one_less form) ∷ []) above))
+
+pub no_split : (todo : List (Bor Formula)) (literals : List Literal) (certs : List Cert) → todo ≡ [] → stack_of todo literals (certificates.Split certs) ≡ false
+no_split todo literals certs is = ap (λ (some : List (Bor Formula)). stack_of some literals (certificates.Split certs)) is ∙ by_split closes literals certs
+
+pub split_there : (todo rest : List (Bor Formula)) (any : Bor Formula) (parts : List Formula) (literals : List Literal) (certs : List Cert) → todo ≡ rest ++ any ∷ [] → any_parts any.now ≡ Some parts
+    → stack_of todo literals (certificates.Split certs) ≡ each_way (map before parts) (stack_of rest) literals certs
+unfolding pauses_any
+split_there todo rest any parts literals certs is some =
+    let p = pauses_any rest any parts some in
+    ap (λ (some : List (Bor Formula)). stack_of some literals (certificates.Split certs)) is ∙ p.is literals (certificates.Split certs) ∙ by_split p.ends literals certs
+
+-- ---- what comes of a branch
+
+pub replaced_so : (held other : Bool) (old new : Vec Branch) (answer : Result Bool AllocError) → held ≡ other → IfOk answer (Replaces other old new) → IfOk answer (Replaces held old new)
+replaced_so held other old new answer e h = subst (λ (n : Bool). IfOk answer (Replaces n old new)) (sym e) h
+
+pub closed_so : (held closed : Bool) (branches : Vec Branch) (answer : Result Bool AllocError) → held ≡ closed → IfOk answer (λ told. told ≡ closed) → IfOk answer (Replaces held branches branches)
+closed_so held closed branches (Ok true) e told = ap (λ (n : Bool). n && all_refute branches.items) (e ∙ sym told)
+closed_so held closed branches (Ok false) e told = e ∙ sym told
+closed_so held closed branches (Err error) e told = tt
 
 -- ---- branches
 
@@ -192,6 +297,15 @@ split_sizes certs cert i before_now after branch old h is so_far push same =
     let one = ap branches_size push ∙ branches_push before_now branch in
     let size = ap size_of same in
     let more = ap sizes_of (taken_one certs i cert h is) ∙ sizes_push (take i certs) cert in
+    omega arith
+
+pub both_sizes : (old middle new : List Branch) (high low : Branch) (below above : Cert) → middle ≡ old ++ high ∷ [] → new ≡ middle ++ low ∷ [] → high.cert.now ≡ above → low.cert.now ≡ below
+    → branches_size new ≡ size_of below + size_of above + branches_size old
+both_sizes old middle new high low below above first second high_is low_is =
+    let one = ap branches_size first ∙ branches_push old high in
+    let two = ap branches_size second ∙ branches_push middle low in
+    let one_size = ap size_of high_is in
+    let two_size = ap size_of low_is in
     omega arith
 
 pub answer_at : (answer : Bool) (part : Formula) (slice todo : List (Bor Formula)) (lits literals : List Literal) (cert : Cert) → answer ≡ before part (stack_of slice) lits cert → slice ≡ todo → lits ≡ literals → answer ≡ before part (stack_of todo) literals cert

@@ -1,4 +1,5 @@
 pub mod BranchLemmas
+pub mod CertForms
 pub mod DecidingLemmas
 pub mod RowLemmas
 pub mod SoundnessLemmas

@@ -1,5 +1,5 @@
 -- A refuted formula is true nowhere.
-use Rattle.std.proofs.Common.{◌≡◌, ◌⊎◌, inl, inr, ⊎_elim, ℕ, zero, suc, ℤ, pos, ◌+ℤ◌, ◌*ℤ◌, ◌≤ℤ◌, Bool, true, false, not, cond, ◌&&◌, ◌||◌, List, [], ◌∷◌, ◌++◌, map, Option, Some, None, Result, Ok, Err, sym, subst, arith, ap, refl, ◌∙◌}
+use Rattle.std.proofs.Common.{◌≡◌, ◌⊎◌, inl, inr, ⊎_elim, ℕ, zero, suc, ℤ, pos, ◌+ℤ◌, ◌-ℤ◌, ◌*ℤ◌, ◌≤ℤ◌, Bool, true, false, not, cond, ◌&&◌, ◌||◌, List, [], ◌∷◌, ◌++◌, map, Option, Some, None, Result, Ok, Err, sym, subst, arith, ap, refl, ◌∙◌}
 use Rattle.std.specs.Prelude.{int_le, int_lt, ◌==◌, slice_get, IsTrue, IfOk}
 use Rattle.std.specs.declared.alloc.AllocError.{AllocError}
 use Rattle.std.specs.List.{list_all, list_any}
@@ -13,14 +13,18 @@ use Rattle.logic_linear.specs.declared.formula.Formula.TheFolds.{ind-Formula, ma
 use Rattle.logic_linear.specs.Linear.{Linear}
 use Rattle.logic_linear.specs.Truth.{Valuation, layer_truth, truth_of, value_of}
 use Rattle.logic_linear.specs.Sums.{sum_of_multiples, sum_fits}
+use Rattle.logic_linear.specs.Negation.{can_negate_linear, one_less}
+use Rattle.logic_linear.proofs.NegationLemmas.{value_of_one_less}
 use Rattle.logic_linear.proofs.SumLemmas.{sum_value}
 use Rattle.logic_cert.specs.declared.cert.Combine.{Combine}
 use Rattle.logic_cert.specs.declared.cert.Literal.{Literal}
 use Rattle.logic_cert.specs.declared.cert.Literal.TheVariants.{Row, Flag}
-use Rattle.logic_cert.specs.declared.cert.Cert.{Cert, out-Cert}
-use Rattle.logic_cert.specs.declared.cert.Cert.TheOpen.{Cert-F, Split, Clash, Chain}
+use Rattle.logic_cert.specs.declared.cert.Cert.{Cert}
+use Rattle.logic_cert.specs.declared.cert.Cert.TheOpen.{Cert-F, Split, Clash, Chain, Cases}
+use Rattle.logic_cert.specs.declared.cert.Cert.TheVariants as certificates
 use Rattle.logic_cert.specs.Refutes.{literal_truth, row_of, are_opposite, made_of, made, is_absurd, chain_goes, is_nil, chain_closes, closes, Refutes}
-use Rattle.logic_cert.specs.inner.Deciding.{Todo, done, in_order, each_way, at_any, before_layer, before, refutes}
+use Rattle.logic_cert.specs.inner.Deciding.{Ends, Todo, done, by_cases, in_order, each_way, at_any, before_layer, before, refutes}
+use Rattle.logic_cert.proofs.CertForms.{by_both, by_chain, by_clash, by_parts, by_split}
 use Rattle.logic_cert.proofs.DecidingLemmas.{decides}
 
 -- ---- chains
@@ -117,6 +121,7 @@ closes_fails : (v : Valuation) (literals : List Literal) (layer : Cert-F Cert) �
 closes_fails v literals (Split certs) h e = absurd cc
 closes_fails v literals (Clash left right) h e = opposites_fail v (slice_get literals left) (slice_get literals right) (h left) (h right) e
 closes_fails v literals (Chain combines) h e = chain_fails v combines (map row_of literals) (rows_hold v literals h) e
+closes_fails v literals (Cases form below above) h e = absurd cc
 
 literal_push : (v : Valuation) (literals : List Literal) (new : Literal) → AllHold v literals → literal_truth v new ≡ true → AllHold v (literals ++ new ∷ [])
 literal_push v [] new h g zero literal e = let same : new ≡ literal = cc in rw (← same) g
@@ -129,6 +134,46 @@ literal_push v (first ∷ literals) new h g (suc i) literal e = literal_push v l
 -- where the literals are true, what is left to do, of this truth, is not
 abbrev Fails : Valuation → Bool → Todo → Type 0
 Fails v truth rest = (literals : List Literal) (cert : Cert) → AllHold v literals → rest literals cert ≡ true → truth ≡ false
+
+-- so it is where a certificate that makes no cases ends it
+abbrev EndsFail : Valuation → Bool → Ends → Type 0
+EndsFail v truth ends = (literals : List Literal) (layer : Cert-F Cert) → AllHold v literals → ends literals layer ≡ true → truth ≡ false
+
+-- a whole number is at most 0, or at least 1
+other_side : (a b : ℤ) → a ≡ pos 1 -ℤ b → int_le b (pos 0) ≡ false → int_le a (pos 0) ≡ true
+other_side a b is h = grind (arith, ints)
+
+abbrev CertFails : Valuation → Bool → Ends → Cert → Type 0
+CertFails v truth ends cert = (literals : List Literal) → AllHold v literals → by_cases ends literals cert ≡ true → truth ≡ false
+
+cases_fail : (v : Valuation) (truth : Bool) (ends : Ends) → EndsFail v truth ends → Fails v truth (by_cases ends)
+cases_fail v truth ends h literals cert g e = by_parts (CertFails v truth ends) of_split of_clash of_chain of_cases cert literals g e
+  where
+    of_split : (parts : List ((cert : Cert) × CertFails v truth ends cert)) → CertFails v truth ends (certificates.Split (map (λ part. part.0) parts))
+    of_split parts literals g e =
+        let certs = map (λ (part : (cert : Cert) × CertFails v truth ends cert). part.0) parts in
+        h literals (Split certs) g (sym (by_split ends literals certs) ∙ e)
+
+    of_clash : (left right : ℕ) → CertFails v truth ends (certificates.Clash left right)
+    of_clash left right literals g e = h literals (Clash left right) g (sym (by_clash ends literals left right) ∙ e)
+
+    of_chain : (combines : List Combine) → CertFails v truth ends (certificates.Chain combines)
+    of_chain combines literals g e = h literals (Chain combines) g (sym (by_chain ends literals combines) ∙ e)
+
+    of_cases : (form : Linear) (below above : Cert) → CertFails v truth ends below → CertFails v truth ends above → CertFails v truth ends (certificates.Cases form below above)
+    of_cases form below above low high literals g e = by_side (int_le (value_of v form) (pos 0)) refl
+      where
+        both : (by_cases ends (literals ++ Row form ∷ []) below && by_cases ends (literals ++ Row (one_less form) ∷ []) above) ≡ true
+        both = (and_parts (can_negate_linear form) _ (sym (by_both ends literals form below above) ∙ e)).1
+
+        sides : (by_cases ends (literals ++ Row form ∷ []) below ≡ true) × (by_cases ends (literals ++ Row (one_less form) ∷ []) above ≡ true)
+        sides = and_parts (by_cases ends (literals ++ Row form ∷ []) below) (by_cases ends (literals ++ Row (one_less form) ∷ []) above) both
+
+        by_side : (is_low : Bool) → int_le (value_of v form) (pos 0) ≡ is_low → truth ≡ false
+        by_side true is = low (literals ++ Row form ∷ []) (literal_push v literals (Row form) g is) sides.0
+        by_side false is =
+            high (literals ++ Row (one_less form) ∷ [])
+            (literal_push v literals (Row (one_less form)) g (other_side (value_of v (one_less form)) (value_of v form) (value_of_one_less v form) is)) sides.1
 
 abbrev Sound : Valuation → Formula → Type 0
 Sound v formula = (truth : Bool) (rest : Todo) → Fails v truth rest → Fails v (truth_of v formula && truth) (before formula rest)
@@ -164,6 +209,7 @@ at_any_fails : (v : Valuation) (parts : Parts v) (truth : Bool) (rest : Todo) �
 at_any_fails v parts truth rest h literals (Split certs) g e = each_way_fails v parts truth rest h literals certs g e
 at_any_fails v parts truth rest h literals (Clash left right) g e = absurd (closes_fails v literals (Clash left right) g e)
 at_any_fails v parts truth rest h literals (Chain combines) g e = absurd (closes_fails v literals (Chain combines) g e)
+at_any_fails v parts truth rest h literals (Cases form below above) g e = absurd cc
 
 abbrev LayerSound : Valuation → Formula-F Formula → Type 0
 LayerSound v layer = (truth : Bool) (rest : Todo) → Fails v truth rest → Fails v (layer_truth v (map-Formula _ Bool (truth_of v) layer) && truth) (before_layer (map-Formula _ (Todo → Todo) before layer) rest)
@@ -179,7 +225,8 @@ layer_sound : (v : Valuation) (layer : Formula-F ((formula : Formula) × Sound v
 layer_sound v (RowLayer form) truth rest h literals cert g e = literal_fails v (Row form) truth rest h literals cert g e
 layer_sound v (FlagLayer place is) truth rest h literals cert g e = literal_fails v (Flag place is) truth rest h literals cert g e
 layer_sound v (Every parts) truth rest h literals cert g e = in_order_fails v parts truth rest h literals cert g e
-layer_sound v (Some_of parts) truth rest h literals cert g e = at_any_fails v parts truth rest h literals (out-Cert cert) g e
+layer_sound v (Some_of parts) truth rest h literals cert g e =
+    cases_fail v _ (at_any (map before (map (λ part. part.0) parts)) rest) (at_any_fails v parts truth rest h) literals cert g e
 
 formula_sound : (v : Valuation) (layer : Formula-F Formula) → LayerSound v layer → Sound v (roll-Formula layer)
 formula_sound v layer sound truth rest h literals cert g e =
@@ -195,7 +242,7 @@ and_true false = refl
 
 decided_is_false : (formula : Formula) (cert : Cert) (v : Valuation) → refutes formula cert ≡ true → truth_of v formula ≡ false
 decided_is_false formula cert v e =
-    sym (and_true (truth_of v formula)) ∙ sound v formula true done (λ literals cert g e. absurd (closes_fails v literals (out-Cert cert) g e)) [] cert (λ i literal e. absurd cc) e
+    sym (and_true (truth_of v formula)) ∙ sound v formula true done (cases_fail v true closes (λ literals layer g e. absurd (closes_fails v literals layer g e))) [] cert (λ i literal e. absurd cc) e
 
 -- A refuted formula is true at no valuation.
 pub refuted_is_false : (formula : Formula) (cert : Cert) (v : Valuation) → Refutes formula cert → truth_of v formula ≡ false

@@ -1,14 +1,17 @@
 -- The texts of certificates, by their forms.
-use Rattle.std.proofs.Common.{◌≡◌, ℕ, zero, suc, ◌<◌, List, [], ◌∷◌, ◌++◌, ◌∙◌, map, codes, decimal, length, get_or, sym, ap, refl, arith}
+use Rattle.std.proofs.Common.{◌≡◌, ℕ, ℤ, zero, suc, ◌<◌, List, [], ◌∷◌, ◌++◌, ◌∙◌, map, codes, decimal, length, get_or, sym, ap, refl, arith}
 use Rattle.std.specs.List.{flat_map}
 use Rattle.std.proofs.lemmas.List.{length-map}
 use Rattle.std.proofs.lemmas.List.Folds.{flat_map-map}
+use Rattle.std.specs.Fmt.{signed_decimal}
+use Rattle.logic_linear.specs.declared.form.Term.{Term}
+use Rattle.logic_linear.specs.Linear.{Linear}
 use Rattle.logic_cert.specs.declared.cert.Combine.{Combine}
 use Rattle.logic_cert.specs.declared.cert.Cert.{Cert}
-use Rattle.logic_cert.specs.declared.cert.Cert.TheVariants.{Split, Clash, Chain, rolls-Split, rolls-Clash, rolls-Chain}
+use Rattle.logic_cert.specs.declared.cert.Cert.TheVariants.{Split, Clash, Chain, Cases, rolls-Split, rolls-Clash, rolls-Chain, rolls-Cases}
 use Rattle.logic_cert.specs.declared.cert.Cert.TheOpen as layers
 use Rattle.logic_cert.specs.declared.cert.Cert.TheFolds.{fold-roll-Cert}
-use Rattle.logic_cert.specs.CertText.{cert_text, cert_layer_text, combine_text}
+use Rattle.logic_cert.specs.CertText.{cert_text, cert_layer_text, combine_text, form_text, term_text}
 use Rattle.logic_cert.specs.inner.Texts.{later_texts}
 
 pub text-Split : (cert : Cert) (certs counted items : List Cert) → cert ≡ Split certs → counted ≡ certs → items ≡ certs → (codes "split " ++ decimal (length counted)) ++ later_texts items ≡ cert_text cert
@@ -25,7 +28,16 @@ pub text-Chain : (cert : Cert) (combines counted items : List Combine) → cert 
 text-Chain cert combines counted items is count same =
     sym (ap cert_text (is ∙ sym (rolls-Chain combines)) ∙ fold-roll-Cert (List ℕ) cert_layer_text (layers.Chain combines) ∙ rw (count, same) refl)
 
-pub same_default : (combines : List Combine) (i : ℕ) (d : Combine) → i < length combines → get_or combines i d ≡ get_or combines i (get_or combines i d)
+pub text-Cases : (cert : Cert) (form : Linear) (below above : Cert) (low high : Cert) → cert ≡ Cases form below above → low ≡ below → high ≡ above
+    → ((codes "cases " ++ form_text form) ++ (codes " below " ++ cert_text low)) ++ (codes " above " ++ cert_text high) ≡ cert_text cert
+text-Cases cert form below above low high is low_is high_is =
+    sym (ap cert_text (is ∙ sym (rolls-Cases form below above)) ∙ fold-roll-Cert (List ℕ) cert_layer_text (layers.Cases form below above) ∙ rw (low_is, high_is) refl)
+
+pub cases_start : (form : Linear) (counted items : List Term) (constant : ℤ) → counted ≡ form.terms → items ≡ form.terms → constant ≡ form.constant
+    → ((codes "cases " ++ decimal (length counted)) ++ flat_map term_text items) ++ (codes " " ++ signed_decimal constant) ≡ codes "cases " ++ form_text form
+cases_start form counted items constant count same is = rw (count, same, is) refl
+
+pub same_default : {X : Type 0} (xs : List X) (i : ℕ) (d : X) → i < length xs → get_or xs i d ≡ get_or xs i (get_or xs i d)
 same_default [] i d h = absurd (omega arith)
-same_default (combine ∷ combines) zero d h = refl
-same_default (combine ∷ combines) (suc i) d h = same_default combines i d (omega arith)
+same_default (x ∷ xs) zero d h = refl
+same_default (x ∷ xs) (suc i) d h = same_default xs i d (omega arith)

@@ -6,13 +6,14 @@ use Rattle.logic_linear.specs.declared.form.Term.{Term}
 use Rattle.logic_linear.specs.declared.formula.Formula.{Formula}
 use Rattle.logic_linear.specs.declared.formula.Formula.TheVariants as formulas
 use Rattle.logic_linear.specs.Linear.{Linear}
+use Rattle.logic_linear.specs.Negation.{can_negate_linear, one_less}
 use Rattle.logic_linear.specs.Sums.{sum_of_multiples, sum_fits}
 use Rattle.logic_linear.specs.Truth.{Valuation, value_of}
 use Rattle.logic_cert.specs.declared.cert.Combine.{Combine}
 use Rattle.logic_cert.specs.declared.cert.Literal.{Literal}
 use Rattle.logic_cert.specs.declared.cert.Literal.TheVariants.{Row, Flag}
 use Rattle.logic_cert.specs.declared.cert.Cert.{Cert, out-Cert}
-use Rattle.logic_cert.specs.declared.cert.Cert.TheOpen.{Cert-F, Split, Clash, Chain}
+use Rattle.logic_cert.specs.declared.cert.Cert.TheOpen.{Cert-F, Split, Clash, Chain, Cases}
 use Rattle.logic_cert.specs.declared.cert.Cert.TheVariants as certificates
 
 -- ---- literals
@@ -83,6 +84,13 @@ chain_closes [] rows = false
 chain_closes (combine ∷ combines) rows =
     chain_goes (chain_closes combines) rows (is_nil combines) (made combine rows)
 
+-- ---- cases
+
+-- The row of the upper side of a form, 1 minus the form, where each number of the form is at least
+-- 2 - FORM_BOUND, so that the row's are in range.
+abbrev pub upper_row : Linear → Option Linear
+upper_row form = if can_negate_linear form then Some (one_less form) else None
+
 -- ---- refutations
 
 -- A clash or a chain over the literals.
@@ -91,6 +99,7 @@ closes literals (Split certs) = false
 closes literals (Clash left right) =
     are_opposite (slice_get literals left) (slice_get literals right)
 closes literals (Chain combines) = chain_closes combines (map row_of literals)
+closes literals (Cases form below above) = false
 
 -- With the literals gathered so far, the certificate refutes the formulas to do, the first first.
 pub data RefutesFrom : List Formula → List Literal → Cert → Type 0 where
@@ -121,6 +130,19 @@ pub data RefutesFrom : List Formula → List Literal → Cert → Type 0 where
   ended : (literals : List Literal) (cert : Cert)
       → closes literals (out-Cert cert) ≡ true
       → RefutesFrom [] literals cert
+  -- where an any is next, a form's value is at most 0 or at least 1: each side has a certificate,
+  -- with its row put first; the form's numbers are such that those of the upper row are in range
+  cases : (form : Linear) (below above : Cert) (parts todo : List Formula) (literals : List Literal)
+      → can_negate_linear form ≡ true
+      → RefutesFrom (formulas.Row form ∷ formulas.Any parts ∷ todo) literals below
+      → RefutesFrom (formulas.Row (one_less form) ∷ formulas.Any parts ∷ todo) literals above
+      → RefutesFrom (formulas.Any parts ∷ todo) literals (certificates.Cases form below above)
+  -- so it is where nothing is left to do
+  last_cases : (form : Linear) (below above : Cert) (literals : List Literal)
+      → can_negate_linear form ≡ true
+      → RefutesFrom (formulas.Row form ∷ []) literals below
+      → RefutesFrom (formulas.Row (one_less form) ∷ []) literals above
+      → RefutesFrom [] literals (certificates.Cases form below above)
 
 -- The certificate refutes the formula.
 abbrev pub Refutes : Formula → Cert → Type 0

@@ -1,18 +1,21 @@
 //! The check of a certificate.
 
-ghost use Rattle.std.specs.Prelude.{◌≡◌, ◌+◌, ◌↔◌, IfOk, OnOk, IsTrue, false};
+ghost use Rattle.std.specs.Prelude.{◌≡◌, ◌+◌, ◌↔◌, IfOk, OnOk, IsTrue, MatchOption, Some, None};
+ghost use Rattle.std.specs.Prelude.{false, true};
 ghost use Rattle.logic_linear.specs.Truth.{Valuation, truth_of};
+ghost use Rattle.logic_cert.specs.declared.cert.Cert.TheVariants as certificates;
 ghost use Rattle.logic_cert.specs.Refutes.{Refutes};
-ghost use Rattle.logic_cert.specs.inner.Branches.{branch_refutes, branches_size, put_before};
-ghost use Rattle.logic_cert.specs.inner.Branches.{sizes_of};
-ghost use Rattle.logic_cert.specs.inner.Branches.{stack_of, IsGathered, Outweighs, PutsFirst};
-ghost use Rattle.logic_cert.specs.inner.Branches.{Replaces};
-ghost use Rattle.logic_cert.specs.inner.Branches.{Shrinks, Splits};
+ghost use Rattle.logic_cert.specs.inner.Branches.{any_parts, branch_refutes, branches_size};
+ghost use Rattle.logic_cert.specs.inner.Branches.{is_paused, put_before, size_of, sizes_of};
+ghost use Rattle.logic_cert.specs.inner.Branches.{stack_of};
+ghost use Rattle.logic_cert.specs.inner.Branches.{Gathers, MakesCases, Outweighs, PutsFirst};
+ghost use Rattle.logic_cert.specs.inner.Branches.{Replaces, Shrinks, Splits, TakesRow};
 ghost use Rattle.logic_cert.specs.inner.Deciding.{refutes};
 
 use super::cert::{Cert, Literal};
 use super::closing::closes;
-use logic_linear::Formula;
+use super::rows::upper_row;
+use logic_linear::{Formula, Lin};
 use std::alloc::{AllocError, Global};
 
 /// What is left to refute at a part of an any that was split, or of the formula.
@@ -64,21 +67,21 @@ fn follow<'a>(
     ensures less { IfOk result (Shrinks branch.entry branches.old branches.new) }
 {
     let mut branch = branch;
-    match gather(&mut branch)? {
-        None => closes(alloc, &branch.literals, branch.cert),
-        Some(parts) => match branch.cert {
-            Cert::Split(certs) => split(alloc, &branch, parts, certs.items(), branches),
-            Cert::Clash { .. } => closes(alloc, &branch.literals, branch.cert),
-            Cert::Chain(_) => closes(alloc, &branch.literals, branch.cert),
-        },
+    gather(&mut branch)?;
+    match branch.cert {
+        Cert::Split(certs) => split_any(alloc, branch, certs.items(), branches),
+        Cert::Clash { .. } => closes(alloc, &branch.literals, branch.cert),
+        Cert::Chain(_) => closes(alloc, &branch.literals, branch.cert),
+        Cert::Cases { form, below, above } => {
+            make_cases(alloc, &branch, form, below.get(), above.get(), branches)
+        }
     }
 }
 
-/// Takes formulas to do up to an any: a literal is gathered, and of an all the parts are put first.
-/// It answers the parts of the any, and none where no formula is left.
-fn gather<'a>(branch: &mut Branch<'a>) -> Result<Option<&'a [Formula]>, AllocError>
-    ensures answer { IfOk result (IsGathered branch.old branch.new) }
-    ensures cert { branch.new.cert ≡ branch.old.cert }
+/// Takes formulas to do up to an any, which stays: a literal is gathered, and of an all the parts
+/// are put first.
+fn gather(branch: &mut Branch<'_>) -> Result<(), AllocError>
+    ensures { OnOk result (Gathers branch.old branch.new) }
 {
     while let Some(formula) = branch.todo.pop() {
         match formula {
@@ -88,10 +91,13 @@ fn gather<'a>(branch: &mut Branch<'a>) -> Result<Option<&'a [Formula]>, AllocErr
                 is: *is,
             })?,
             Formula::All(parts) => put_first(parts.items(), &mut branch.todo)?,
-            Formula::Any(parts) => return Ok(Some(parts.items())),
+            Formula::Any(_) => {
+                branch.todo.push(formula)?;
+                return Ok(());
+            }
         }
     }
-    Ok(None)
+    Ok(())
 }
 
 /// Puts the parts on the formulas to do, so that the first part comes first.
@@ -105,6 +111,44 @@ fn put_first<'a>(parts: &'a [Formula], todo: &mut Vec<&'a Formula>) -> Result<()
         todo.push(&parts[left])?;
     }
     Ok(())
+}
+
+/// Splits the any that is next. It answers false where none is, or has not as many parts.
+fn split_any<'a>(
+    alloc: Global,
+    branch: Branch<'a>,
+    certs: &'a [Cert],
+    branches: &mut Vec<Branch<'a>>,
+) -> Result<bool, AllocError>
+    requires { is_paused branch.todo.items ≡ true }
+    ensures answer { IfOk result (Replaces
+        (stack_of branch.entry.todo.items branch.entry.literals.items
+        (certificates.Split certs.now)) branches.old branches.new) }
+    ensures size { IfOk result (λ even. IsTrue even
+        → branches_size branches.new.items
+        ≡ sizes_of certs.now + branches_size branches.old.items) }
+{
+    let mut at = branch;
+    match at.todo.pop() {
+        None => Ok(false),
+        Some(any) => match parts_of(any) {
+            None => Ok(false),
+            Some(parts) => split(alloc, &at, parts, certs, branches),
+        },
+    }
+}
+
+/// The parts of an any.
+fn parts_of<'a>(formula: &'a Formula) -> Option<&'a [Formula]>
+    ensures { MatchOption result (any_parts formula.now ≡ None)
+        (λ parts. any_parts formula.now ≡ Some parts.now) }
+{
+    match formula {
+        Formula::Row(_) => None,
+        Formula::Flag { .. } => None,
+        Formula::All(_) => None,
+        Formula::Any(parts) => Some(parts.items()),
+    }
 }
 
 /// Puts a branch on the list for each part with its certificate. It answers false where there are
@@ -146,6 +190,50 @@ fn branch_of<'a>(
     let literals = copied_literals(alloc, literals)?;
     Ok(Branch {
         todo: formulas,
+        literals,
+        cert,
+    })
+}
+
+/// Puts a branch on the list for each side of a form. It answers false where the row of the upper
+/// side cannot be made.
+fn make_cases<'a>(
+    alloc: Global,
+    at: &Branch<'a>,
+    form: &Lin,
+    below: &'a Cert,
+    above: &'a Cert,
+    branches: &mut Vec<Branch<'a>>,
+) -> Result<bool, AllocError>
+    ensures answer { IfOk result
+        (MakesCases at.now form.now below.now above.now branches.old branches.new) }
+    ensures size { IfOk result (λ made. IsTrue made
+        → branches_size branches.new.items
+        ≡ size_of below.now + size_of above.now + branches_size branches.old.items) }
+{
+    let Some(upper) = upper_row(alloc, form)? else {
+        return Ok(false);
+    };
+    branches.push(side_of(alloc, at, upper, above)?)?;
+    branches.push(side_of(alloc, at, form.clone()?, below)?)?;
+    Ok(true)
+}
+
+/// The branch in which a row is gathered too.
+fn side_of<'a>(
+    alloc: Global,
+    at: &Branch<'a>,
+    row: Lin,
+    cert: &'a Cert,
+) -> Result<Branch<'a>, AllocError>
+    ensures answer { IfOk result (TakesRow at.now row cert.now) }
+    ensures cert { IfOk result (λ branch. branch.cert.now ≡ cert.now) }
+{
+    let todo = Vec::from_slice(alloc, &at.todo)?;
+    let mut literals = copied_literals(alloc, &at.literals)?;
+    literals.push(Literal::Row(row))?;
+    Ok(Branch {
+        todo,
         literals,
         cert,
     })

@@ -1,6 +1,6 @@
 //! Certificates.
 
-use base_list::Seq;
+use base_list::{Boxed, Seq};
 use logic_linear::Lin;
 
 /// A made row: so many times one row and so many times another.
@@ -18,9 +18,18 @@ pub enum Cert {
     /// Of each part of an any, why it isn't true with what was gathered.
     Split(Seq<Cert>),
     /// Two gathered literals are a flag with opposite truths.
-    Clash { left: u32, right: u32 },
+    Clash {
+        left: u32,
+        right: u32,
+    },
     /// Rows made of gathered ones and of each other, the last of which is a positive number.
     Chain(Seq<Combine>),
+    /// Why it isn't true where the form's value is at most 0, and why not where it is at least 1.
+    Cases {
+        form: Lin,
+        below: Boxed<Cert>,
+        above: Boxed<Cert>,
+    },
 }
 
 /// A row or a flag that was gathered.

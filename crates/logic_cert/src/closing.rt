@@ -45,5 +45,6 @@ pub(crate) fn closes(alloc: Global, literals: &[Literal], cert: &Cert) -> Result
         Cert::Split(_) => Ok(false),
         Cert::Clash { left, right } => Ok(clashes(literals, *left as usize, *right as usize)),
         Cert::Chain(combines) => chain_closes(alloc, literals, combines.items()),
+        Cert::Cases { .. } => Ok(false),
     }
 }

@@ -3,15 +3,17 @@
 ghost use Rattle.std.specs.Prelude.{◌++◌, codes};
 ghost use Rattle.std.specs.List.{flat_map};
 ghost use Rattle.base_io.specs.Writing.{Wrote};
-ghost use Rattle.logic_cert.specs.CertText.{cert_text, combine_text, multiple_text};
+ghost use Rattle.logic_cert.specs.CertText.{cert_text, combine_text, form_text};
+ghost use Rattle.logic_cert.specs.CertText.{multiple_text, term_text};
 ghost use Rattle.logic_cert.specs.inner.Texts.{later_text, later_texts};
 
 use super::cert::{Cert, Combine};
 use base_io::{Sink, SinkFailed, write_piece, write_pieces};
 use itoa::{Buffer, Integer};
+use logic_linear::{Lin, Term};
 
 /// Writes the text of a certificate. It takes no memory, and calls itself once for each level of
-/// splits in one another.
+/// splits and cases in one another.
 ///
 /// After `SinkFailed` the first bytes were taken, fewer than all and maybe none.
 #[cycle(print_cert)]
@@ -31,7 +33,21 @@ pub fn print_cert<S: Sink>(cert: &Cert, out: &mut S) -> Result<(), SinkFailed>
             write_word(b"chain ", combines.items().len(), out)?;
             write_combines(combines.items(), out)
         }
+        Cert::Cases { form, below, above } => {
+            write_cases(form, out)?;
+            write_side(b" below ", below.get(), out)?;
+            write_side(b" above ", above.get(), out)
+        }
     }
+}
+
+/// A word and the certificate of a side.
+#[cycle(print_cert)]
+fn write_side<S: Sink>(word: &[u8], cert: &Cert, out: &mut S) -> Result<(), SinkFailed>
+    ensures { Wrote (S.seen out.old) (S.seen out.new) result (word.now ++ cert_text cert.now) }
+{
+    write_piece(word, out)?;
+    print_cert(cert, out)
 }
 
 #[cycle(print_cert)]
@@ -50,6 +66,25 @@ fn write_later<S: Sink>(cert: &Cert, out: &mut S) -> Result<(), SinkFailed>
 {
     write_piece(b" ", out)?;
     print_cert(cert, out)
+}
+
+/// The word of cases and their form.
+fn write_cases<S: Sink>(form: &Lin, out: &mut S) -> Result<(), SinkFailed>
+    ensures { Wrote (S.seen out.old) (S.seen out.new) result
+        (codes "cases " ++ form_text form.now) }
+{
+    write_word(b"cases ", form.terms().len(), out)?;
+    write_terms(form.terms(), out)?;
+    write_number(form.constant(), out)
+}
+
+fn write_terms<S: Sink>(terms: &[Term], out: &mut S) -> Result<(), SinkFailed>
+    ensures { Wrote (S.seen out.old) (S.seen out.new) result (flat_map term_text terms.now) }
+{
+    for term in terms {
+        write_multiple(term.place, term.times, out)?;
+    }
+    Ok(())
 }
 
 fn write_combines<S: Sink>(combines: &[Combine], out: &mut S) -> Result<(), SinkFailed>

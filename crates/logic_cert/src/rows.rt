@@ -1,13 +1,20 @@
 //! Rows that chains make.
 
 ghost use Rattle.std.specs.Prelude.{◌≡◌, ◌+ℤ◌, ◌*ℤ◌, IfOk, SomeIff, map, true};
+ghost use Rattle.std.specs.List.{list_all};
+ghost use Rattle.logic_linear.specs.Negation.{can_negate_linear, can_negate_number};
+ghost use Rattle.logic_linear.specs.Negation.{can_negate_term};
 ghost use Rattle.logic_linear.specs.Sums.{constants_fit, fits_128};
 ghost use Rattle.logic_cert.specs.Refutes.{are_factors, chain_closes, made, made_of_two, row_of};
+ghost use Rattle.logic_cert.specs.Refutes.{upper_row};
 
 use super::cert::{Combine, Literal};
 use super::wide_row::WideRow;
-use logic_linear::combined_terms;
+use logic_linear::{Formula, Lin, Term, combined_terms, negate};
 use std::alloc::{AllocError, Global};
+
+/// The least number of a form that is negated.
+const LEAST_NEGATED: i128 = 2 - (1 << 95);
 
 /// So many times the one row and so many times the other. It is none exactly where a factor is
 /// below 0, or a product or a number of the sum is not from `-2^127` to `2^127 - 1`. It fails only
@@ -73,6 +80,40 @@ fn sum(a: i128, b: i128) -> Option<i128>
     ensures { SomeIff result (fits_128 (a +ℤ b) ≡ true) (a +ℤ b) }
 {
     a.checked_add(b)
+}
+
+/// 1 minus the form: the row of the upper side of cases. It is none where a number of the form is
+/// below `2 - 2^95`, and fails only for want of memory.
+pub fn upper_row(alloc: Global, form: &Lin) -> Result<Option<Lin>, AllocError>
+    ensures { IfOk result (λ row. row ≡ upper_row form.now) }
+{
+    if !can_negate(form) {
+        return Ok(None);
+    }
+    let row = Formula::Row(form.clone()?);
+    match negate(alloc, &row)? {
+        Formula::Row(upper) => Ok(Some(upper)),
+        _ => Ok(None),
+    }
+}
+
+/// Whether each number of the form is at least `2 - 2^95`.
+fn can_negate(form: &Lin) -> bool
+    ensures { result ≡ can_negate_linear form.now }
+{
+    can_negate_terms(form.terms()) && can_negate_number(form.constant())
+}
+
+fn can_negate_terms(terms: &[Term]) -> bool
+    ensures { result ≡ list_all can_negate_term terms.now }
+{
+    terms.iter().all(|term| can_negate_number(term.times))
+}
+
+fn can_negate_number(number: i128) -> bool
+    ensures { result ≡ can_negate_number number }
+{
+    number >= LEAST_NEGATED
 }
 
 /// Whether each row of the chain can be made of those before, and the last one is true nowhere.

@@ -2,13 +2,14 @@
 use Rattle.std.proofs.Common.{◌≡◌, ℕ, ◌<◌, List, [], ◌∷◌, ◌++◌, length, reverse, refl, sym, ap, ◌∙◌, append_assoc, append-nil, arith}
 use Rattle.std.proofs.lemmas.List.{reverse-append}
 use Rattle.std.proofs.lemmas.List.Concat.{flat_map-append}
+use Rattle.logic_linear.specs.Linear.{Linear}
 use Rattle.logic_cert.specs.declared.cert.Combine.{Combine}
 use Rattle.logic_cert.specs.declared.cert.Cert.{Cert}
 use Rattle.logic_cert.specs.declared.cert.Cert.TheVariants as certificates
 use Rattle.logic_outline.specs.declared.outline.Node.{Node}
-use Rattle.logic_outline.specs.declared.outline.Node.TheVariants.{Parts, End}
+use Rattle.logic_outline.specs.declared.outline.Node.TheVariants.{Parts, End, Sides}
 use Rattle.logic_outline.specs.Outlines.{outline_of, outlines_of}
-use Rattle.logic_outline.proofs.OutlineForms.{chain_outline, clash_outline, split_outline}
+use Rattle.logic_outline.proofs.OutlineForms.{cases_outline, chain_outline, clash_outline, split_outline}
 
 pub top_first : {X : Type 0} (xs : List X) (x : X) → reverse (xs ++ x ∷ []) ≡ x ∷ reverse xs
 top_first xs x = reverse-append xs (x ∷ [])
@@ -52,6 +53,14 @@ pub chain_turn : (nodes more whole : List Node) (todo left : List Cert) (cert : 
     → more ≡ nodes ++ End (certificates.Chain combines) ∷ [] → Turn todo left nodes more whole
 chain_turn nodes more whole todo left cert combines popped is push =
     turn nodes more whole todo left (End (certificates.Chain combines)) (taken todo left left cert (End (certificates.Chain combines)) [] popped (ap outline_of is ∙ chain_outline combines) refl) push
+
+pub cases_turn : (nodes more whole : List Node) (todo left one after : List Cert) (cert : Cert) (form : Linear) (below above low high : Cert) → todo ≡ left ++ cert ∷ [] → cert ≡ certificates.Cases form below above → low ≡ below → high ≡ above
+    → more ≡ nodes ++ Sides form ∷ [] → one ≡ left ++ high ∷ [] → after ≡ one ++ low ∷ [] → Turn todo after nodes more whole
+cases_turn nodes more whole todo left one after cert form below above low high popped is low_is high_is push first second =
+    turn nodes more whole todo after (Sides form)
+    (taken todo left after cert (Sides form) (below ∷ above ∷ []) popped (ap outline_of is ∙ cases_outline form below above)
+    (ap reverse second ∙ top_first one low ∙ ap (λ (some : List Cert). low ∷ some) (ap reverse first ∙ top_first left high) ∙ rw (low_is, high_is) refl))
+    push
 
 pub all_done : (cert : Cert) (todo : List Cert) (nodes : List Node) → todo ≡ [] → nodes ++ outlines_of (reverse todo) ≡ outline_of cert → outline_of cert ≡ nodes
 all_done cert todo nodes none so_far =

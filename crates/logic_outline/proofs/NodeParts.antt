@@ -1,6 +1,7 @@
--- The parts of a node's text, and its three kinds.
+-- The parts of a node's text, and its four kinds.
 use Rattle.std.proofs.Common.{◌≡◌, Bor, Option, None, Some, Result, Ok, Err, IfOk, ℕ, ◌<◌, ◌^◌, List, ◌∷◌, ◌++◌, length, codes, sym, ap, refl, ◌∙◌, subst, append_assoc, arith}
 use Rattle.std.proofs.lemmas.List.{append_cancel_left}
+use Rattle.logic_linear.specs.Linear.{Linear}
 use Rattle.logic_cert.specs.declared.cert.Combine.{Combine}
 use Rattle.logic_cert.specs.declared.cert.Cert.{Cert, out-Cert}
 use Rattle.logic_cert.specs.declared.cert.Cert.TheOpen.{Cert-F}
@@ -10,10 +11,10 @@ use Rattle.logic_cert.specs.declared.cert.Cert.TheViews.{roll-Cert, out-roll-Cer
 use Rattle.logic_cert.specs.CertText.{cert_text, combine_text}
 use Rattle.logic_cert.proofs.TextLemmas.{text-Clash, text-Chain}
 use Rattle.logic_outline.specs.declared.outline.Node.{Node}
-use Rattle.logic_outline.specs.declared.outline.Node.TheVariants.{Parts, End}
-use Rattle.logic_outline.specs.Outlines.{IsCombine, IsEnd, IsFactor, IsTyped}
+use Rattle.logic_outline.specs.declared.outline.Node.TheVariants.{Parts, End, Sides}
+use Rattle.logic_outline.specs.Outlines.{IsCombine, IsEnd, IsFactor, IsForm, IsTyped}
 use Rattle.logic_outline.specs.Readings.{EndsNumber, IsRead}
-use Rattle.logic_outline.specs.inner.Parts.{AreCombines, chain_text, clash_text, combines_text, IsBelow, IsChain, IsClash, IsPair, later_factor, later_number, node_text, pair_text}
+use Rattle.logic_outline.specs.inner.Parts.{AreCombines, chain_text, clash_text, combines_text, IsBelow, IsChain, IsClash, IsPair, later_factor, later_number, node_text, pair_text, sides_text}
 use Rattle.logic_outline.proofs.Readings.{Joins, ends_items, joined, second_fails}
 
 -- ---- parts one after the other
@@ -63,21 +64,24 @@ chain_rest bytes count (Err e) r s = tt
 chain_rest bytes count (Ok None) r s = second_fails later_number (IsBelow (2 ^ 64)) combines_text AreCombines chain_text IsChain chain_joins bytes count r s
 chain_rest bytes count (Ok (Some rows)) r s = joined later_number (IsBelow (2 ^ 64)) combines_text AreCombines chain_text IsChain chain_joins bytes count rows r s
 
--- ---- the three kinds
+-- ---- the four kinds
 
 data Kind (node : Node) : Type 0 where
   a_split : (count : ℕ) → node ≡ Parts count → count < 2 ^ 64 → Kind node
   a_clash : (left right : ℕ) → node ≡ End (Clash left right) → IsClash (left, right) → Kind node
   a_chain : (combines : List Combine) → node ≡ End (Chain combines) → IsChain combines → Kind node
+  some_cases : (form : Linear) → node ≡ Sides form → IsForm form → Kind node
 
 kind_of_layer : (cert : Cert) (layer : Cert-F Cert) → cert ≡ roll-Cert layer → IsEnd layer → Kind (End cert)
 kind_of_layer cert (layers.Split certs) is fits = absurd fits
 kind_of_layer cert (layers.Clash left right) is fits = a_clash left right (ap End (is ∙ rolls-Clash left right)) fits
 kind_of_layer cert (layers.Chain combines) is fits = a_chain combines (ap End (is ∙ rolls-Chain combines)) fits
+kind_of_layer cert (layers.Cases form below above) is fits = absurd fits
 
 kind_of : (node : Node) → IsTyped node → Kind node
 kind_of (Parts count) fits = a_split count refl fits
 kind_of (End cert) fits = kind_of_layer cert (out-Cert cert) (sym (roll-out-Cert cert)) fits
+kind_of (Sides form) fits = some_cases form refl fits
 
 pub typed_end : (cert : Cert) (layer : Cert-F Cert) → roll-Cert layer ≡ cert → IsEnd layer → IsTyped (End cert)
 typed_end cert layer is fits = subst IsEnd (sym (out-roll-Cert layer) ∙ ap out-Cert is) fits
@@ -153,6 +157,7 @@ only_split node left rest typed same = by (kind_of node typed)
     by (a_split count is fits) = record { value = count; is = is; fits = fits }
     by (a_clash one other is fits) = let bytes : 108 ≡ 112 = second_is node (clash_of (one, other)) (codes "clash" ++ clash_text (one, other)) left (codes "split" ++ rest) is (clash_spelled (one, other)) same in absurd (omega (arith, bytes))
     by (a_chain combines is fits) = let bytes : 104 ≡ 112 = second_is node (chain_of combines) (codes "chain" ++ chain_text combines) left (codes "split" ++ rest) is (chain_spelled combines) same in absurd (omega (arith, bytes))
+    by (some_cases form is fits) = let bytes : 97 ≡ 112 = second_is node (Sides form) (codes "cases" ++ sides_text form) left (codes "split" ++ rest) is refl same in absurd (omega (arith, bytes))
 
 only_clash : (node : Node) (left rest : List ℕ) → IsTyped node
     → node_text node ++ left ≡ codes "clash" ++ rest → Made clash_of IsClash node
@@ -162,6 +167,7 @@ only_clash node left rest typed same = by (kind_of node typed)
     by (a_split count is fits) = let bytes : 112 ≡ 108 = second_is node (Parts count) (codes "split" ++ later_number count) left (codes "clash" ++ rest) is refl same in absurd (omega (arith, bytes))
     by (a_clash one other is fits) = record { value = (one, other); is = is; fits = fits }
     by (a_chain combines is fits) = let bytes : 104 ≡ 108 = second_is node (chain_of combines) (codes "chain" ++ chain_text combines) left (codes "clash" ++ rest) is (chain_spelled combines) same in absurd (omega (arith, bytes))
+    by (some_cases form is fits) = let bytes : 97 ≡ 108 = second_is node (Sides form) (codes "cases" ++ sides_text form) left (codes "clash" ++ rest) is refl same in absurd (omega (arith, bytes))
 
 only_chain : (node : Node) (left rest : List ℕ) → IsTyped node
     → node_text node ++ left ≡ codes "chain" ++ rest → Made chain_of IsChain node
@@ -171,6 +177,17 @@ only_chain node left rest typed same = by (kind_of node typed)
     by (a_split count is fits) = let bytes : 112 ≡ 104 = second_is node (Parts count) (codes "split" ++ later_number count) left (codes "chain" ++ rest) is refl same in absurd (omega (arith, bytes))
     by (a_clash one other is fits) = let bytes : 108 ≡ 104 = second_is node (clash_of (one, other)) (codes "clash" ++ clash_text (one, other)) left (codes "chain" ++ rest) is (clash_spelled (one, other)) same in absurd (omega (arith, bytes))
     by (a_chain combines is fits) = record { value = combines; is = is; fits = fits }
+    by (some_cases form is fits) = let bytes : 97 ≡ 104 = second_is node (Sides form) (codes "cases" ++ sides_text form) left (codes "chain" ++ rest) is refl same in absurd (omega (arith, bytes))
+
+only_cases : (node : Node) (left rest : List ℕ) → IsTyped node
+    → node_text node ++ left ≡ codes "cases" ++ rest → Made Sides IsForm node
+only_cases node left rest typed same = by (kind_of node typed)
+  where
+    by : Kind node → Made Sides IsForm node
+    by (a_split count is fits) = let bytes : 112 ≡ 97 = second_is node (Parts count) (codes "split" ++ later_number count) left (codes "cases" ++ rest) is refl same in absurd (omega (arith, bytes))
+    by (a_clash one other is fits) = let bytes : 108 ≡ 97 = second_is node (clash_of (one, other)) (codes "clash" ++ clash_text (one, other)) left (codes "cases" ++ rest) is (clash_spelled (one, other)) same in absurd (omega (arith, bytes))
+    by (a_chain combines is fits) = let bytes : 104 ≡ 97 = second_is node (chain_of combines) (codes "chain" ++ chain_text combines) left (codes "cases" ++ rest) is (chain_spelled combines) same in absurd (omega (arith, bytes))
+    by (some_cases form is fits) = record { value = form; is = is; fits = fits }
 
 pub split_none : (rest bytes : List ℕ) → codes "split" ++ rest ≡ bytes
     → IsRead later_number (IsBelow (2 ^ 64)) rest None → IsRead node_text IsTyped bytes None
@@ -198,3 +215,12 @@ pub chain_some : (rest bytes : List ℕ) (a : List Combine × Bor (List ℕ))
     → codes "chain" ++ rest ≡ bytes → IsRead chain_text IsChain rest (Some a)
     → IsRead node_text IsTyped bytes (Some (End (Chain a.0), a.1))
 chain_some = kind_some chain_of chain_text IsChain (codes "chain") chain_spelled chain_typed only_chain
+
+pub cases_none : (rest bytes : List ℕ) → codes "cases" ++ rest ≡ bytes
+    → IsRead sides_text IsForm rest None → IsRead node_text IsTyped bytes None
+cases_none = kind_none Sides sides_text IsForm (codes "cases") (λ form. refl) (λ form fits. fits) only_cases
+
+pub cases_some : (rest bytes : List ℕ) (a : Linear × Bor (List ℕ))
+    → codes "cases" ++ rest ≡ bytes → IsRead sides_text IsForm rest (Some a)
+    → IsRead node_text IsTyped bytes (Some (Sides a.0, a.1))
+cases_some = kind_some Sides sides_text IsForm (codes "cases") (λ form. refl) (λ form fits. fits) only_cases

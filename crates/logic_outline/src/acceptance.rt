@@ -1,21 +1,27 @@
 //! The check of an outline.
 
-ghost use Rattle.std.specs.Prelude.{◌≡◌, ◌↔◌, IfOk, IsTrue, map, OnOk};
-ghost use Rattle.logic_cert.specs.declared.cert.Cert.{Cert, out-Cert};
-ghost use Rattle.logic_cert.specs.Refutes.{closes, Refutes};
-ghost use Rattle.logic_cert.specs.inner.Branches.{put_before, stack_of, Outweighs};
-ghost use Rattle.logic_cert.specs.inner.Deciding.{refutes};
+ghost use Rattle.std.specs.Prelude.{◌≡◌, ◌↔◌, IfOk, IsTrue, MatchOption, OnOk, Some, None};
+ghost use Rattle.std.specs.Prelude.{map, true};
+ghost use Rattle.logic_cert.specs.declared.cert.Cert.{Cert};
+ghost use Rattle.logic_cert.specs.declared.cert.Cert.TheVariants as certificates;
+ghost use Rattle.logic_cert.specs.Refutes.{Refutes};
+ghost use Rattle.logic_cert.specs.inner.Branches.{any_parts, is_paused, put_before, stack_of};
+ghost use Rattle.logic_cert.specs.inner.Branches.{Outweighs};
+ghost use Rattle.logic_cert.specs.inner.Deciding.{done, refutes};
 ghost use Rattle.logic_outline.specs.Outlines.{outline_of};
-ghost use Rattle.logic_outline.specs.inner.Branches.{formula_of, met_literals, IsFirst, IsFollowed};
-ghost use Rattle.logic_outline.specs.inner.Branches.{IsGathered, IsSplit, PutsFirst};
+ghost use Rattle.logic_outline.specs.inner.Branches.{both_rows, branch_refutes, formula_of};
+ghost use Rattle.logic_outline.specs.inner.Branches.{met_literals, rows_of, Gathers, IsFirst};
+ghost use Rattle.logic_outline.specs.inner.Branches.{IsFollowed, IsSplit, PutsFirst};
+ghost use Rattle.logic_outline.specs.inner.Branches.{ReplacesOrNot};
 
 use super::outline::{Node, Outline};
 use base_list::Seq;
-use logic_cert::{Cert, accepts};
-use logic_linear::Formula;
+use logic_cert::{Cert, accepts, upper_row};
+use logic_linear::{Formula, Lin};
 use std::alloc::{AllocError, Global};
 
-/// What is left to refute at a part of an any that was split, or of the formula.
+/// What is left to refute at a part of an any that was split, at a side of cases, or of the
+/// formula.
 #[derive(Drop)]
 struct Branch<'a> {
     /// The formulas to do, the last one first.
@@ -41,13 +47,61 @@ fn follow_all(alloc: Global, formula: &Formula, nodes: &[Node]) -> Result<bool, 
     ensures { (cert : Cert) → nodes.now ≡ outline_of cert
         → IfOk result (λ refuted. refuted ≡ refutes formula.now cert) }
 {
+    let rows = side_rows(alloc, nodes)?;
+    follow_each(alloc, formula, nodes, &rows)
+}
+
+/// The rows of both sides of each node that makes cases, where they can be made.
+fn side_rows(alloc: Global, nodes: &[Node]) -> Result<Vec<Seq<Formula>>, AllocError>
+    ensures { IfOk result (λ rows. rows.items ≡ map rows_of nodes.now) }
+{
+    let mut rows = Vec::new(alloc);
+    for node in nodes {
+        rows.push(rows_of(alloc, node)?)?;
+    }
+    Ok(rows)
+}
+
+fn rows_of(alloc: Global, node: &Node) -> Result<Seq<Formula>, AllocError>
+    ensures { IfOk result (λ rows. rows ≡ rows_of node.now) }
+{
+    match node {
+        Node::Parts(_) => Ok(Seq::of(Vec::new(alloc))),
+        Node::End(_) => Ok(Seq::of(Vec::new(alloc))),
+        Node::Sides(form) => both_rows(alloc, form),
+    }
+}
+
+/// The rows of both sides of a form, and none where that of the upper side cannot be made.
+fn both_rows(alloc: Global, form: &Lin) -> Result<Seq<Formula>, AllocError>
+    ensures { IfOk result (λ rows. rows ≡ both_rows form.now) }
+{
+    let mut rows = Vec::new(alloc);
+    if let Some(upper) = upper_row(alloc, form)? {
+        rows.push(Formula::Row(form.clone()?))?;
+        rows.push(Formula::Row(upper))?;
+    }
+    Ok(Seq::of(rows))
+}
+
+/// Whether the certificate of the nodes refutes the formula, where the rows of each are given.
+fn follow_each<'a>(
+    alloc: Global,
+    formula: &'a Formula,
+    nodes: &[Node],
+    rows: &'a [Seq<Formula>],
+) -> Result<bool, AllocError>
+    requires { rows.now ≡ map rows_of nodes.now }
+    ensures { (cert : Cert) → nodes.now ≡ outline_of cert
+        → IfOk result (λ refuted. refuted ≡ refutes formula.now cert) }
+{
     let mut branches = Vec::new(alloc);
     branches.push(first_branch(alloc, formula)?)?;
-    for node in nodes {
+    for i in 0..nodes.len() {
         let Some(branch) = branches.pop() else {
             return Ok(false);
         };
-        if !follow(alloc, branch, node, &mut branches)? {
+        if !follow(alloc, branch, &nodes[i], rows[i].items(), &mut branches)? {
             return Ok(false);
         }
     }
@@ -72,36 +126,39 @@ fn follow<'a>(
     alloc: Global,
     branch: Branch<'a>,
     node: &Node,
+    rows: &'a [Formula],
     branches: &mut Vec<Branch<'a>>,
 ) -> Result<bool, AllocError>
+    requires { rows.now ≡ rows_of node.now }
     ensures { IfOk result
         (IsFollowed branch.entry node.now branches.old.items branches.new.items) }
 {
     let mut branch = branch;
-    let parts = gather(&mut branch)?;
+    gather(&mut branch)?;
     match node {
         Node::End(cert) => closes(alloc, &branch.met, cert),
-        Node::Parts(count) => match parts {
-            Some(parts) => split(alloc, &branch, parts, *count, branches),
-            None => Ok(false),
-        },
+        Node::Parts(count) => split_any(alloc, branch, *count, branches),
+        Node::Sides(_) => split(alloc, &branch, rows, 2, branches),
     }
 }
 
-/// Takes formulas to do up to an any: rows and flags are met, and of an all the parts are put
-/// first. It answers the parts of the any, and none where no formula is left.
-fn gather<'a>(branch: &mut Branch<'a>) -> Result<Option<&'a [Formula]>, AllocError>
-    ensures { IfOk result (IsGathered branch.old branch.new) }
+/// Takes formulas to do up to an any, which stays: rows and flags are met, and of an all the parts
+/// are put first.
+fn gather(branch: &mut Branch<'_>) -> Result<(), AllocError>
+    ensures { OnOk result (Gathers branch.old branch.new) }
 {
     while let Some(formula) = branch.todo.pop() {
         match formula {
             Formula::Row(_) => branch.met.push(formula)?,
             Formula::Flag { .. } => branch.met.push(formula)?,
             Formula::All(parts) => put_first(parts.items(), &mut branch.todo)?,
-            Formula::Any(parts) => return Ok(Some(parts.items())),
+            Formula::Any(_) => {
+                branch.todo.push(formula)?;
+                return Ok(());
+            }
         }
     }
-    Ok(None)
+    Ok(())
 }
 
 /// Puts the parts on the formulas to do, so that the first part comes first.
@@ -117,9 +174,9 @@ fn put_first<'a>(parts: &'a [Formula], todo: &mut Vec<&'a Formula>) -> Result<()
     Ok(())
 }
 
-/// Whether the certificate is a clash or a chain over what was met.
+/// Whether the certificate ends the work over what was met, as a clash or a chain does.
 fn closes(alloc: Global, met: &[&Formula], cert: &Cert) -> Result<bool, AllocError>
-    ensures { IfOk result (λ closed. closed ≡ closes (met_literals met.now) (out-Cert cert.now)) }
+    ensures { IfOk result (λ closed. closed ≡ done (met_literals met.now) cert.now) }
 {
     let parts = copies(alloc, met)?;
     accepts(alloc, &Formula::All(Seq::of(parts)), cert)
@@ -142,6 +199,41 @@ fn copies(alloc: Global, met: &[&Formula]) -> Result<Vec<Formula>, AllocError>
         }
     }
     Ok(parts)
+}
+
+/// Splits the any that is next. It answers false where none is, or has not as many parts.
+fn split_any<'a>(
+    alloc: Global,
+    branch: Branch<'a>,
+    count: u64,
+    branches: &mut Vec<Branch<'a>>,
+) -> Result<bool, AllocError>
+    requires { is_paused branch.todo.items ≡ true }
+    ensures { IfOk result (ReplacesOrNot
+        (λ certs. branch_refutes branch.entry (certificates.Split certs))
+        count branches.old.items branches.new.items) }
+{
+    let mut at = branch;
+    match at.todo.pop() {
+        None => Ok(false),
+        Some(any) => match parts_of(any) {
+            None => Ok(false),
+            Some(parts) => split(alloc, &at, parts, count, branches),
+        },
+    }
+}
+
+/// The parts of an any.
+fn parts_of<'a>(formula: &'a Formula) -> Option<&'a [Formula]>
+    ensures { MatchOption result (any_parts formula.now ≡ None)
+        (λ parts. any_parts formula.now ≡ Some parts.now) }
+{
+    match formula {
+        Formula::Row(_) => None,
+        Formula::Flag { .. } => None,
+        Formula::All(_) => None,
+        Formula::Any(parts) => Some(parts.items()),
+    }
 }
 
 /// Puts a branch on the list for each part, so that the first part comes first. It answers false

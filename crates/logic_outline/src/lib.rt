@@ -2,10 +2,12 @@
 //!
 //! An [`Outline`] is a certificate that contracts see as it is (`specs/Outlines`). [`read_outline`]
 //! reads one from its text (`specs/Readings`), and [`is_refuted`] tells exactly whether it refutes
-//! a formula. Neither asks how deep splits nest in one another, so no depth is too much for it.
+//! a formula. Neither asks how deep splits and cases nest in one another, so no depth is too much
+//! for it.
 #![tactic(auto)]
 
 mod acceptance;
+mod forms;
 mod listing;
 mod numbers;
 mod outline;

@@ -23,6 +23,11 @@ pub fn outlined(alloc: Global, cert: Cert) -> Result<Outline, AllocError>
             }
             Cert::Clash { left, right } => nodes.push(Node::End(Cert::Clash { left, right }))?,
             Cert::Chain(combines) => nodes.push(Node::End(Cert::Chain(combines)))?,
+            Cert::Cases { form, below, above } => {
+                nodes.push(Node::Sides(form))?;
+                todo.push(above.into_inner())?;
+                todo.push(below.into_inner())?;
+            }
         }
     }
     Ok(Outline::of(nodes))

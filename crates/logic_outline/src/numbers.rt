@@ -7,8 +7,9 @@ ghost use Rattle.std.specs.Fmt.{signed_decimal};
 ghost use Rattle.lang_base.specs.Identifiers.{is_digit};
 ghost use Rattle.logic_outline.specs.Outlines.{IsFactor};
 ghost use Rattle.logic_outline.specs.Readings.{IsRead};
-ghost use Rattle.logic_outline.specs.inner.Parts.{IsBelow, IsBelowZero, IsFromZero, later_factor};
-ghost use Rattle.logic_outline.specs.inner.Parts.{later_number, text_below_zero};
+ghost use Rattle.logic_outline.specs.inner.Parts.{IsBelow, IsBelowZero, IsFromZero, IsPair};
+ghost use Rattle.logic_outline.specs.inner.Parts.{later_factor, later_number};
+ghost use Rattle.logic_outline.specs.inner.Parts.{pair_text, text_below_zero};
 
 use itoa::Buffer;
 use lang_base::is_digit;
@@ -34,6 +35,15 @@ fn later_number<'a>(bytes: &'a [u8]) -> Option<(u128, &'a [u8])>
     ensures { IsRead later_number (IsBelow (2 ^ 128)) bytes.now result }
 {
     number(after(b" ", bytes)?)
+}
+
+/// A row's number or a place, and how many times it counts.
+pub(crate) fn multiple<'a>(bytes: &'a [u8]) -> Option<((u32, i128), &'a [u8])>
+    ensures { IsRead pair_text IsPair bytes.now result }
+{
+    let (row, rest) = row(bytes)?;
+    let (times, rest) = times(rest)?;
+    Some(((row, times), rest))
 }
 
 /// A blank and a factor.

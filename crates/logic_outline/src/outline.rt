@@ -4,6 +4,7 @@ ghost use Rattle.std.specs.Prelude.{◌≡◌};
 ghost use Rattle.logic_outline.specs.Outlines.{cert_of, outline_of};
 
 use logic_cert::Cert;
+use logic_linear::Lin;
 use std::marker::Model;
 
 /// A part of a certificate, as it stands in a list.
@@ -13,11 +14,13 @@ pub enum Node {
     Parts(u64),
     /// A clash or a chain.
     End(Cert),
+    /// Cases: the certificates of both sides of the form come, one after the other.
+    Sides(Lin),
 }
 
-/// A certificate, which contracts see as it is, kept as the list of its splits, clashes and chains
-/// in the order of its text. So reading it, checking it and dropping it call themselves nowhere,
-/// however deep its splits nest.
+/// A certificate, which contracts see as it is, kept as the list of its splits, cases, clashes
+/// and chains in the order of its text. So reading it, checking it and dropping it call themselves
+/// nowhere, however deep its splits and cases nest.
 #[derive(Debug, Drop)]
 pub struct Outline {
     nodes: Vec<Node>,

@@ -1,18 +1,22 @@
 //! Outlines read from the texts of certificates.
 
-ghost use Rattle.std.specs.Prelude.{◌≡◌, ◌≤◌, ◌^◌, ◌++◌, List, ℕ, codes, IfOk};
+ghost use Rattle.std.specs.Prelude.{◌≡◌, ◌≤◌, ◌^◌, ◌++◌, List, ℕ, codes, option_map, reverse};
+ghost use Rattle.std.specs.Prelude.{IfOk, OnOk};
 ghost use Rattle.logic_cert.specs.CertText.{cert_text, combine_text};
-ghost use Rattle.logic_outline.specs.Outlines.{HasTypedNumbers, IsCombine, IsTyped};
+ghost use Rattle.logic_outline.specs.Outlines.{HasTypedNumbers, IsCombine, IsForm, IsTyped};
 ghost use Rattle.logic_outline.specs.Readings.{IsRead};
-ghost use Rattle.logic_outline.specs.inner.Parts.{AreCombines, chain_text};
-ghost use Rattle.logic_outline.specs.inner.Parts.{clash_text, combines_text};
-ghost use Rattle.logic_outline.specs.inner.Parts.{IsBelow, IsChain, IsClash, IsOpened, IsPair};
-ghost use Rattle.logic_outline.specs.inner.Parts.{later_node, later_number, node_text, pair_text};
+ghost use Rattle.logic_outline.specs.inner.Parts.{AreCombines, chain_text, clash_text};
+ghost use Rattle.logic_outline.specs.inner.Parts.{combines_text, IsAfter, IsBelow, IsChain};
+ghost use Rattle.logic_outline.specs.inner.Parts.{IsClash, IsOpened, IsPair, IsResumed};
+ghost use Rattle.logic_outline.specs.inner.Parts.{later_after, later_node, later_number};
+ghost use Rattle.logic_outline.specs.inner.Parts.{node_text, pair_text, sides_text};
 
-use super::numbers::{after, count, row, times};
+use super::forms::sides;
+use super::numbers::{after, count, multiple, row};
 use super::outline::{Node, Outline};
 use base_list::Seq;
 use logic_cert::{Cert, Combine};
+use logic_linear::Lin;
 use std::alloc::{AllocError, Global};
 
 /// The certificate at the front of the bytes, and the bytes after it (`specs/Readings`). It is none
@@ -32,17 +36,17 @@ pub fn read_outline<'a>(
     let Some((first, rest)) = node(alloc, bytes)? else {
         return Ok(None);
     };
-    let Some(mut due) = opened(&first, 1, rest.len()) else {
+    let mut later = Vec::new(alloc);
+    let Some((mut due, mut left)) = after_node(&first, 1, &mut later, rest)? else {
         return Ok(None);
     };
     let mut nodes = Vec::new(alloc);
     nodes.push(first)?;
-    let mut left = rest;
     while due > 0 {
         let Some((node, rest)) = later_node(alloc, left)? else {
             return Ok(None);
         };
-        let Some(count) = opened(&node, due, rest.len()) else {
+        let Some((count, rest)) = after_node(&node, due, &mut later, rest)? else {
             return Ok(None);
         };
         nodes.push(node)?;
@@ -52,8 +56,30 @@ pub fn read_outline<'a>(
     Ok(Some((Outline::of(nodes), left)))
 }
 
-/// How many certificates come after the node, where so many came with it. It is none where they are
-/// more than there are bytes.
+/// How many certificates come at once after the node, and the bytes from there, where so many came
+/// with it; on the list it keeps how many come after each word of a second side, the next one last.
+/// It is none where there are more than bytes, or where that word is due and does not stand there.
+fn after_node<'a>(
+    node: &Node,
+    due: usize,
+    later: &mut Vec<usize>,
+    bytes: &'a [u8],
+) -> Result<Option<(usize, &'a [u8])>, AllocError>
+    requires { 1 ≤ due }
+    ensures { IfOk result
+        (IsAfter node.now due (reverse later.old.items) bytes.now (reverse later.new.items)) }
+{
+    match opened(node, due, bytes.len()) {
+        None => Ok(None),
+        Some(count) => {
+            put_later(node, due, later)?;
+            Ok(resumed(count, later, bytes))
+        }
+    }
+}
+
+/// How many certificates come at once after the node, where so many came with it. It is none where
+/// they are more than there are bytes.
 fn opened(node: &Node, due: usize, bytes: usize) -> Option<usize>
     requires { 1 ≤ due }
     ensures { IsOpened node.now due bytes result }
@@ -61,10 +87,47 @@ fn opened(node: &Node, due: usize, bytes: usize) -> Option<usize>
     let count = match node {
         Node::Parts(count) => (due - 1).checked_add(*count as usize),
         Node::End(_) => Some(due - 1),
+        Node::Sides(_) => Some(1),
     };
     match count {
         Some(count) if count <= bytes => Some(count),
         _ => None,
+    }
+}
+
+/// Keeps how many certificates come after the word of the second side, where the node makes cases.
+fn put_later(node: &Node, due: usize, later: &mut Vec<usize>) -> Result<(), AllocError>
+    ensures { OnOk result
+        (reverse later.new.items ≡ later_after node.now due (reverse later.old.items)) }
+{
+    match node {
+        Node::Parts(_) => {}
+        Node::End(_) => {}
+        Node::Sides(_) => later.push(due)?,
+    }
+    Ok(())
+}
+
+/// Goes on with what comes after the word of the second side, where none comes before it.
+fn resumed<'a>(count: usize, later: &mut Vec<usize>, bytes: &'a [u8]) -> Option<(usize, &'a [u8])>
+    ensures { IsResumed count (reverse later.old.items) bytes.now (reverse later.new.items) result }
+{
+    if count > 0 {
+        return Some((count, bytes));
+    }
+    match later.pop() {
+        None => Some((0, bytes)),
+        Some(due) => after_word(due, after(b" above", bytes)),
+    }
+}
+
+/// So many certificates, and the bytes after a word that was found.
+fn after_word<'a>(due: usize, rest: Option<&'a [u8]>) -> Option<(usize, &'a [u8])>
+    ensures { result ≡ option_map (λ one. (due, one)) rest.entry }
+{
+    match rest {
+        None => None,
+        Some(rest) => Some((due, rest)),
     }
 }
 
@@ -87,6 +150,9 @@ fn node<'a>(alloc: Global, bytes: &'a [u8]) -> Result<Option<(Node, &'a [u8])>, 
     }
     if let Some(rest) = after(b"clash", bytes) {
         return Ok(clash_node(clash(rest)));
+    }
+    if let Some(rest) = after(b"cases", bytes) {
+        return Ok(sides_node(sides(alloc, rest)?));
     }
     match after(b"chain", bytes) {
         Some(rest) => Ok(chain_node(chain(alloc, rest)?)),
@@ -126,6 +192,18 @@ fn chain_node<'a>(read: Option<(Seq<Combine>, &'a [u8])>) -> Option<(Node, &'a [
 {
     match read {
         Some((combines, rest)) => Some((Node::End(Cert::Chain(combines)), rest)),
+        None => None,
+    }
+}
+
+/// The cases of the form that was read.
+fn sides_node<'a>(read: Option<(Lin, &'a [u8])>) -> Option<(Node, &'a [u8])>
+    ensures { (rest bytes : List ℕ) → codes "cases" ++ rest ≡ bytes
+        → IsRead sides_text IsForm rest read.entry
+        → IsRead node_text IsTyped bytes result }
+{
+    match read {
+        Some((form, rest)) => Some((Node::Sides(form), rest)),
         None => None,
     }
 }
@@ -184,13 +262,4 @@ fn combine<'a>(bytes: &'a [u8]) -> Option<(Combine, &'a [u8])>
         right_times,
     };
     Some((combine, rest))
-}
-
-/// A row's number, and how many times it is taken.
-fn multiple<'a>(bytes: &'a [u8]) -> Option<((u32, i128), &'a [u8])>
-    ensures { IsRead pair_text IsPair bytes.now result }
-{
-    let (row, rest) = row(bytes)?;
-    let (times, rest) = times(rest)?;
-    Some(((row, times), rest))
 }

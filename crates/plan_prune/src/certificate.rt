@@ -26,9 +26,9 @@ pub fn certificate_of(
     ensures decided { IfOk result (IsDecision monitor.now query.now) }
     ensures valid { IfOk result (λ it. IfSome it (λ cert. IsValidQuery monitor.now query.now)) }
 {
-    refuted_formula_is_false();
-    refuted_query_is_valid();
-    satisfied_query_is_invalid();
+    refuted_formula_is_false(); // so where a certificate is found
+    refuted_query_is_valid(); // the query is valid
+    satisfied_query_is_invalid(); // and where its negation is true somewhere it is not
     monitor.blocks();
     match negated(alloc, monitor, query)? {
         None => Ok(None),

@@ -66,6 +66,10 @@ fn note_used(used: &mut Vec<Candidate>, kept: &[Candidate], cert: &Cert) -> Resu
             Ok(())
         }
         Cert::Chain(sums) => Ok(note_sums(used, kept, sums.items())?),
+        Cert::Cases { below, above, .. } => {
+            note_used(used, kept, below.get())?;
+            note_used(used, kept, above.get())
+        }
     }
 }
 

@@ -55,7 +55,7 @@ pub fn invariant(alloc: Global, monitor: &Monitor) -> Result<Invariant, AllocErr
     ensures greatest { IfOk result (λ made. HasNoHardClaim monitor.now
         → IsGreatest monitor.now made.kept) }
 {
-    candidates_are_expressible();
+    candidates_are_expressible(); // of fields whose starts fit 64 bits, as is read next
     read_starts(monitor.fields());
     let first = true_at_start(alloc, monitor)?;
     let round = pruned(alloc, monitor, first)?;

@@ -4,12 +4,13 @@ use Rattle.std.specs.Prelude.{slice_get}
 use Rattle.std.specs.List.{list_all, flat_map}
 use Rattle.std.specs.Option.{option_map_or}
 use Rattle.std.specs.Fmt.{signed_decimal}
+use Rattle.logic_linear.specs.Linear.{Linear}
 use Rattle.logic_cert.specs.declared.cert.Combine.{Combine}
 use Rattle.logic_cert.specs.declared.cert.Cert.{Cert}
-use Rattle.logic_cert.specs.declared.cert.Cert.TheOpen.{Cert-F, Split, Clash, Chain}
+use Rattle.logic_cert.specs.declared.cert.Cert.TheOpen.{Cert-F, Split, Clash, Chain, Cases}
 use Rattle.logic_cert.specs.declared.cert.Cert.TheViews.{roll-Cert}
 use Rattle.logic_cert.specs.declared.cert.Cert.TheFolds.{fold-roll-Cert, ind-Cert, map-Cert}
-use Rattle.logic_cert.specs.CertText.{cert_layer_text, cert_text, combine_text, multiple_text}
+use Rattle.logic_cert.specs.CertText.{cert_layer_text, cert_text, combine_text, form_text, multiple_text, term_text}
 use Rattle.lang_monitor.specs.declared.candidate.Candidate.{Candidate}
 use Rattle.lang_monitor.specs.declared.candidate.Candidate.TheVariants as candidates
 use Rattle.lang_monitor.specs.declared.claim.Claim.{Claim}
@@ -112,11 +113,20 @@ Part = (cert : Cert) × HasNoLineFeed (cert_text cert)
 later_in_line : (number : ℕ) → HasNoLineFeed (codes " " ++ decimal number)
 later_in_line number = both_in_line (codes " ") (decimal number) refl (decimal_in_line number)
 
+multiple_in_line : (row : ℕ) (times : ℤ) → HasNoLineFeed (multiple_text row times)
+multiple_in_line row times = both_in_line (codes " " ++ decimal row) (codes " " ++ signed_decimal times) (later_in_line row) (both_in_line (codes " ") (signed_decimal times) refl (signed_in_line times))
+
 combine_in_line : (combine : Combine) → HasNoLineFeed (combine_text combine)
-combine_in_line combine = both_in_line (multiple_text combine.left combine.left_times) (multiple_text combine.right combine.right_times) (multiple combine.left combine.left_times) (multiple combine.right combine.right_times)
-  where
-    multiple : (row : ℕ) (times : ℤ) → HasNoLineFeed (multiple_text row times)
-    multiple row times = both_in_line (codes " " ++ decimal row) (codes " " ++ signed_decimal times) (later_in_line row) (both_in_line (codes " ") (signed_decimal times) refl (signed_in_line times))
+combine_in_line combine =
+    both_in_line (multiple_text combine.left combine.left_times) (multiple_text combine.right combine.right_times)
+    (multiple_in_line combine.left combine.left_times) (multiple_in_line combine.right combine.right_times)
+
+form_in_line : (form : Linear) → HasNoLineFeed (form_text form)
+form_in_line form =
+    let count : ℕ = length form.terms in
+    both_in_line (decimal count ++ flat_map term_text form.terms) (codes " " ++ signed_decimal form.constant)
+    (both_in_line (decimal count) (flat_map term_text form.terms) (decimal_in_line count) (each_in_line term_text (λ term. multiple_in_line term.place term.times) form.terms))
+    (both_in_line (codes " ") (signed_decimal form.constant) refl (signed_in_line form.constant))
 
 parts_in_line : (parts : List Part)
     → HasNoLineFeed
@@ -139,6 +149,11 @@ layer_in_line (Chain combines) =
     let count : ℕ = length combines in
     both_in_line (codes "chain " ++ decimal count) (flat_map combine_text combines)
     (both_in_line (codes "chain ") (decimal count) refl (decimal_in_line count)) (each_in_line combine_text combine_in_line combines)
+layer_in_line (Cases form below above) =
+    both_in_line ((codes "cases " ++ form_text form) ++ (codes " below " ++ cert_text below.0)) (codes " above " ++ cert_text above.0)
+    (both_in_line (codes "cases " ++ form_text form) (codes " below " ++ cert_text below.0)
+    (both_in_line (codes "cases ") (form_text form) refl (form_in_line form)) (both_in_line (codes " below ") (cert_text below.0) refl below.1))
+    (both_in_line (codes " above ") (cert_text above.0) refl above.1)
 
 pub cert_in_line : (cert : Cert) → HasNoLineFeed (cert_text cert)
 cert_in_line = ind-Cert (λ cert. HasNoLineFeed (cert_text cert)) (λ layer parts is. subst (λ (one : Cert-F Cert). HasNoLineFeed (cert_text (roll-Cert one))) is (rolled parts))

@@ -2,16 +2,18 @@
 use Rattle.std.proofs.Common.{◌≡◌, ℕ, ◌<◌, ◌^◌, List, [], ◌∷◌, length, sym, ap, subst, ◌∙◌}
 use Rattle.std.specs.Prelude.{All}
 use Rattle.std.proofs.lemmas.List.Elements.{All-append, All-cons, All-head, All-nil, All-tail}
+use Rattle.logic_linear.specs.declared.form.Term.{Term}
+use Rattle.logic_linear.specs.Linear.{IsLinear, Linear}
 use Rattle.logic_cert.specs.declared.cert.Combine.{Combine}
 use Rattle.logic_cert.specs.declared.cert.Cert.{Cert}
 use Rattle.logic_cert.specs.declared.cert.Cert.TheOpen as layers
-use Rattle.logic_cert.specs.declared.cert.Cert.TheVariants.{Split, Clash, Chain, rolls-Clash, rolls-Chain}
+use Rattle.logic_cert.specs.declared.cert.Cert.TheVariants.{Split, Clash, Chain, Cases, rolls-Clash, rolls-Chain}
 use Rattle.logic_outline.specs.declared.outline.Node.{Node}
-use Rattle.logic_outline.specs.declared.outline.Node.TheVariants.{Parts, End}
-use Rattle.logic_outline.specs.Outlines.{HasTypedNumbers, IsCombine, IsTyped}
+use Rattle.logic_outline.specs.declared.outline.Node.TheVariants.{Parts, End, Sides}
+use Rattle.logic_outline.specs.Outlines.{HasTypedNumbers, HasTypedPlace, IsCombine, IsForm, IsTyped}
 use Rattle.logic_outline.specs.Outlines.{outline_of, outlines_of}
 use Rattle.logic_outline.proofs.NodeParts.{typed_end}
-use Rattle.logic_outline.proofs.OutlineForms.{chain_outline, clash_outline, split_outline}
+use Rattle.logic_outline.proofs.OutlineForms.{cases_outline, chain_outline, clash_outline, split_outline}
 
 all_typed : (certs : List Cert) → All HasTypedNumbers certs → All IsTyped (outlines_of certs)
 all_typed [] all = All-nil IsTyped
@@ -42,3 +44,19 @@ chain_typed cert combines counted items is count same few each =
     (typed_end (Chain combines) (layers.Chain combines) (rolls-Chain combines)
     (subst (λ (some : List Combine). length some < 2 ^ 64) count few, subst (λ (some : List Combine). All IsCombine some) same each))
     (All-nil IsTyped))
+
+pub form_typed : (form : Linear) (terms : List Term) → terms ≡ form.terms → IsLinear form → All HasTypedPlace terms → length terms < 2 ^ 64 → IsForm form
+form_typed form terms same rule places few = record {
+  rule = rule;
+  places = subst (All HasTypedPlace) same places;
+  count = subst (λ (some : List Term). length some < 2 ^ 64) same few;
+}
+
+pub cases_typed : (cert : Cert) (form : Linear) (below above low high : Cert) → cert ≡ Cases form below above → low ≡ below → high ≡ above → IsForm form
+    → HasTypedNumbers low → HasTypedNumbers high → HasTypedNumbers cert
+cases_typed cert form below above low high is low_is high_is typed low_typed high_typed =
+    one_typed cert (Sides form ∷ outlines_of (below ∷ above ∷ [])) (ap outline_of is ∙ cases_outline form below above)
+    (All-cons IsTyped (Sides form) (outlines_of (below ∷ above ∷ [])) typed
+    (all_typed (below ∷ above ∷ [])
+    (All-cons HasTypedNumbers below (above ∷ []) (subst HasTypedNumbers low_is low_typed)
+    (All-cons HasTypedNumbers above [] (subst HasTypedNumbers high_is high_typed) (All-nil HasTypedNumbers)))))

@@ -1,9 +1,11 @@
 //! The numbers of certificates, which are of their types.
 
 ghost use Rattle.std.specs.Prelude.{◌<◌, ◌^◌, All};
-ghost use Rattle.logic_outline.specs.Outlines.{HasTypedNumbers, IsCombine, IsFactor};
+ghost use Rattle.logic_outline.specs.Outlines.{HasTypedNumbers, HasTypedPlace, IsCombine};
+ghost use Rattle.logic_outline.specs.Outlines.{IsFactor, IsForm};
 
 use logic_cert::{Cert, Combine};
+use logic_linear::{Lin, Term};
 use plan_claims::{PlacedPlan, Proof};
 
 /// The numbers of the certificates of a placed plan are of their types. It reads each of them,
@@ -43,6 +45,11 @@ fn of_cert(cert: &Cert)
             of_count(combines.items().len());
             of_combines(combines.items());
         }
+        Cert::Cases { form, below, above } => {
+            of_form(form);
+            of_cert(below.get());
+            of_cert(above.get());
+        }
     }
 }
 
@@ -54,6 +61,26 @@ fn of_certs(certs: &[Cert])
         of_cert(cert);
     }
 }
+
+fn of_form(form: &Lin)
+    ensures { IsForm form.now }
+{
+    let terms = form.terms();
+    of_count(terms.len());
+    of_places(terms);
+}
+
+fn of_places(terms: &[Term])
+    ensures { All HasTypedPlace terms.now }
+{
+    for term in terms {
+        of_place(term.place);
+    }
+}
+
+fn of_place(place: u32)
+    ensures { place < 2 ^ 32 }
+{}
 
 fn of_combines(combines: &[Combine])
     ensures { All IsCombine combines.now }

@@ -1,8 +1,4 @@
-use Rattle.std.proofs.Common.{Bor, map, ap, ◌∙◌}
-use Rattle.logic_cert.specs.declared.cert.Cert.{Cert, out-Cert}
-use Rattle.logic_cert.specs.inner.Branches.{stack_of}
-use Rattle.logic_cert.specs.inner.Deciding.{before, at_any}
-use Rattle.logic_cert.proofs.BranchLemmas.{row_goes, row_shrinks, flag_goes, flag_shrinks, all_goes, all_shrinks, any_reached}
+use Rattle.logic_cert.proofs.BranchLemmas.{row_goes, row_shrinks, flag_goes, flag_shrinks, all_goes, all_shrinks, any_paused, any_stays}
 use Rattle.logic_cert.proofs.acceptance.gather.Goals as goal
 
 pub loop-formula-smaller-in_ok-push-in-Row : goal.loop-formula-smaller-in_ok-push-in-Row
@@ -35,7 +31,9 @@ loop-formula-preserved c = record {
   cert = c.loop-formula.invariant.cert;
 }
 
-pub returns-in-Any-clause-answer : goal.returns-in-Any-clause-answer
-returns-in-Any-clause-answer c =
-    any_reached _ c.loop-formula.branch.todo.items c.pop.new.self.items c.in-Some.formula c.in-Any.parts c.items-in-Any.result.now c.loop-formula.branch.literals.items c.loop-formula.branch.cert.now c.loop-formula.invariant.same c.in-Some.ensures.items c.in-Any.is c.items-in-Any.ensures
-    ∙ ap (λ (cert : Bor Cert). at_any (map before c.items-in-Any.result.now) (stack_of c.pop.new.self.items) c.loop-formula.branch.literals.items (out-Cert cert.now)) c.loop-formula.invariant.cert
+pub returns-in-Any : goal.returns-in-Any
+returns-in-Any c = record {
+  same = any_stays _ c.loop-formula.branch.todo.items c.pop.new.self.items c.push-in-Any.new.self.items c.in-Some.formula c.loop-formula.branch.literals.items c.loop-formula.branch.cert.now c.loop-formula.invariant.same c.in-Some.ensures.items c.in_ok-push-in-Any.ensures.items;
+  cert = c.loop-formula.invariant.cert;
+  paused = any_paused c.pop.new.self.items c.push-in-Any.new.self.items c.in-Some.formula c.in-Any.field-0 c.in_ok-push-in-Any.ensures.items c.in-Any.is;
+}

@@ -1,4 +1,4 @@
-use Rattle.logic_cert.proofs.BranchLemmas.{row_shrinks, flag_shrinks, all_goes, all_shrinks, any_reached}
+use Rattle.logic_cert.proofs.BranchLemmas.{row_shrinks, flag_shrinks, all_goes, all_shrinks, any_paused, any_stays}
 use Rattle.logic_outline.specs.inner.Branches.{met_literals}
 use Rattle.logic_outline.proofs.BranchLemmas.{flag_met, row_met}
 use Rattle.logic_outline.proofs.acceptance.gather.Goals as goal
@@ -28,6 +28,7 @@ loop-formula-preserved c cert =
     (c.loop-formula.invariant cert) c.in-Some.ensures.items c.in-All.is c.items.ensures c.in_ok-put_first-in-All.ensures.order
 
 pub returns-in-Any : goal.returns-in-Any
-returns-in-Any c cert =
-    any_reached _ c.loop-formula.branch.todo.items c.pop.new.self.items c.in-Some.formula c.in-Any.parts c.items-in-Any.result.now (met_literals c.loop-formula.branch.met.items) cert
-    (c.loop-formula.invariant cert) c.in-Some.ensures.items c.in-Any.is c.items-in-Any.ensures
+returns-in-Any c = record {
+  same = λ cert. any_stays _ c.loop-formula.branch.todo.items c.pop.new.self.items c.push-in-Any.new.self.items c.in-Some.formula (met_literals c.loop-formula.branch.met.items) cert (c.loop-formula.invariant cert) c.in-Some.ensures.items c.in_ok-push-in-Any.ensures.items;
+  paused = any_paused c.pop.new.self.items c.push-in-Any.new.self.items c.in-Some.formula c.in-Any.field-0 c.in_ok-push-in-Any.ensures.items c.in-Any.is;
+}

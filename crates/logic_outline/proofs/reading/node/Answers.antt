@@ -6,5 +6,8 @@ returns-in-Some c = c.split_node.ensures c.in-Some.rest.now c.args.bytes.now c.i
 pub returns-in-Some-after : goal.returns-in-Some-after
 returns-in-Some-after c = c.clash_node.ensures c.in-Some-after.rest.now c.args.bytes.now c.in-Some-after.ensures c.clash.ensures
 
-pub returns-in_ok-chain-in-Some-after-2 : goal.returns-in_ok-chain-in-Some-after-2
-returns-in_ok-chain-in-Some-after-2 c = c.chain_node.ensures c.in-Some-after-2.rest.now c.args.bytes.now c.in-Some-after-2.ensures c.in_ok-chain-in-Some-after-2.ensures
+pub returns-in-Some-after-2 : goal.returns-in-Some-after-2
+returns-in-Some-after-2 c = c.sides_node.ensures c.in-Some-after-2.rest.now c.args.bytes.now c.in-Some-after-2.ensures c.in_ok-sides.ensures
+
+pub returns-in_ok-chain-in-Some-after-3 : goal.returns-in_ok-chain-in-Some-after-3
+returns-in_ok-chain-in-Some-after-3 c = c.chain_node.ensures c.in-Some-after-3.rest.now c.args.bytes.now c.in-Some-after-3.ensures c.in_ok-chain-in-Some-after-3.ensures

@@ -2,7 +2,7 @@ use Rattle.std.proofs.Common.{arith, subst}
 use Rattle.std.proofs.lemmas.List.Elements.{All-more}
 use Rattle.logic_outline.specs.Outlines.{HasTypedNumbers}
 use Rattle.report_verdict.proofs.Pairs.{all_taken}
-use Rattle.report_proofs.proofs.TypedNumbers.{chain_typed, clash_typed, split_typed}
+use Rattle.report_proofs.proofs.TypedNumbers.{cases_typed, chain_typed, clash_typed, split_typed}
 use Rattle.report_proofs.proofs.ranges.+of_cert.Goals as goal
 
 pub of_cert-returns-in-Split : goal.of_cert-returns-in-Split
@@ -15,6 +15,11 @@ of_cert-returns-in-Clash t c = clash_typed c.args.cert.now c.in-Clash.left c.in-
 pub of_cert-returns-in-Chain : goal.of_cert-returns-in-Chain
 of_cert-returns-in-Chain t c =
     chain_typed c.args.cert.now c.in-Chain.combines c.items-in-Chain.result.now c.items-in-Chain-2.result.now c.in-Chain.is c.items-in-Chain.ensures c.items-in-Chain-2.ensures c.of_count-in-Chain.ensures c.of_combines.ensures
+
+pub of_cert-returns-in-Cases : goal.of_cert-returns-in-Cases
+of_cert-returns-in-Cases t c =
+    cases_typed c.args.cert.now c.in-Cases.form c.in-Cases.below c.in-Cases.above c.get.result.now c.get-in-Cases.result.now c.in-Cases.is c.get.ensures c.get-in-Cases.ensures
+    c.of_form.ensures c.of_cert.ensures c.of_cert-in-Cases.ensures
 
 pub of_certs-loop-cert-preserved : goal.of_certs-loop-cert-preserved
 of_certs-loop-cert-preserved t c =

@@ -6,7 +6,7 @@ use Rattle.logic_outline.specs.Outlines.{IsFactor}
 use Rattle.logic_outline.specs.inner.Parts.{IsBelow, IsPair, later_factor, later_number, pair_text}
 use Rattle.logic_outline.proofs.Readings.{first_fails, joined, second_fails}
 use Rattle.logic_outline.proofs.NodeParts.{pair_joins}
-use Rattle.logic_outline.proofs.reading.multiple.Goals as goal
+use Rattle.logic_outline.proofs.numbers.multiple.Goals as goal
 
 pub returns-in_err-row : goal.returns-in_err-row
 returns-in_err-row c = rw c.from_residual.ensures (first_fails later_number (IsBelow (2 ^ 32)) later_factor (λ row. IsFactor) pair_text IsPair pair_joins c.args.bytes.now c.in_err-row.ensures)
