@@ -5,7 +5,7 @@ use Rattle.std.specs.List.{list_any, AllByRecursion as Each}
 use Rattle.logic_linear.specs.Linear.{Linear}
 use Rattle.logic_cert.specs.declared.cert.Combine.{Combine}
 use Rattle.logic_cert.specs.declared.cert.Cert.{Cert, out-Cert}
-use Rattle.logic_cert.specs.declared.cert.Cert.TheOpen.{Cert-F, Split, Clash, Chain}
+use Rattle.logic_cert.specs.declared.cert.Cert.TheOpen.{Cert-F, Split, Clash, Chain, Cases}
 use Rattle.logic_cert.specs.declared.cert.Literal.{Literal}
 use Rattle.logic_cert.specs.declared.cert.Literal.TheVariants.{Row, Flag}
 use Rattle.logic_cert.specs.Refutes.{are_opposite, chain_closes, chain_goes, closes, is_nil, literal_truth, made, made_of, row_of}
@@ -271,10 +271,13 @@ closes_by : (literals facts : List Literal) (numbers : List ℕ) (count : ℕ) (
 closes_by literals facts numbers count (Split certs) after is are same closed lean = absurd same
 closes_by literals facts numbers count (Clash left right) (Split certs) is are same closed lean = absurd same
 closes_by literals facts numbers count (Clash left right) (Chain sums) is are same closed lean = absurd same
+closes_by literals facts numbers count (Clash left right) (Cases form below above) is are same closed lean = absurd same
 closes_by literals facts numbers count (Clash left right) (Clash left_after right_after) is are same closed lean =
     (rw (same.0, same.1) (clash_moved literals facts numbers count left right are closed), tt)
 closes_by literals facts numbers count (Chain sums) (Split certs) is are same closed lean = absurd same
 closes_by literals facts numbers count (Chain sums) (Clash left right) is are same closed lean = absurd same
+closes_by literals facts numbers count (Chain sums) (Cases form below above) is are same closed lean = absurd same
+closes_by literals facts numbers count (Cases form below above) after is are same closed lean = absurd same
 closes_by literals facts numbers count (Chain sums) (Chain sums_after) is are same closed lean =
     let few = are.count in
     let first = moved_later numbers count (length facts) (omega arith) ∙ let here : (length facts - length numbers) + count ≡ length literals = omega arith in here in (

@@ -1,6 +1,6 @@
 -- Cubes that are solved: their heights as numbers, and cubes that are true nowhere.
 use Rattle.std.proofs.Common.{◌≡◌, ◌⊎◌, inl, inr, ℕ, suc, ◌+◌, ◌<◌, ◌≤◌, ◌^◌, ℤ, pos, ◌+ℤ◌, ◌-ℤ◌, ◌*ℤ◌, ◌≤ℤ◌, Bool, true, false, cond, ◌||◌, List, [], ◌∷◌, ◌++◌, length, map, min, Option, Some, None, Bor, sym, subst, arith, ap, refl, ◌∙◌}
-use Rattle.std.specs.Prelude.{◌==◌}
+use Rattle.std.specs.Prelude.{◌==◌, IfSome}
 use Rattle.std.specs.List.{flat_map, list_any, AllByRecursion as Each}
 use Rattle.logic_linear.specs.declared.form.Term.{Term}
 use Rattle.logic_linear.specs.declared.formula.Formula.{Formula}
@@ -32,7 +32,7 @@ use Rattle.logic_solve.specs.inner.Literals.{noted, terms_in_literals, AreTrue, 
 use Rattle.logic_solve.specs.inner.Paths.{height_at, AreEdges, AreHigh}
 use Rattle.logic_solve.specs.inner.Paths.{IsCycle, IsFitting, IsReached}
 use Rattle.logic_solve.specs.inner.Searches.{in_order, HasOpenCube, IsFound}
-use Rattle.logic_solve.specs.inner.Solving.{number_in, true_places, AreNear, IsSolved, StandsSo}
+use Rattle.logic_solve.specs.inner.Solving.{number_in, true_places, AreNear, IsSolved, Solves, StandsSo}
 use Rattle.logic_solve.proofs.CubeLemmas.{cube_size, cube_true, differences_in, no_general_cube}
 use Rattle.logic_solve.proofs.CycleLemmas.{cycle_closes}
 use Rattle.logic_solve.proofs.EdgeLemmas.{edges_fit, literals_hold, standing}
@@ -169,6 +169,12 @@ solved_by_cube formula cube None is solved = λ easy v. absurd (not_both formula
 pub cube_solved : (formula : Formula) (rest : List (Bor (List Formula))) (gathered cube slice : List Literal) (answer : Option Solution) → rest ≡ [] → gathered ≡ [] → slice ≡ cube → IsFound (formula ∷ in_order rest) gathered cube None → IsSolved slice answer → IsSolution formula answer
 cube_solved formula rest gathered cube slice answer f h same found solved =
     solved_by_cube formula cube answer (found_for formula rest gathered cube None f h found) (subst (λ (some : List Literal). IsSolved some answer) same solved)
+
+pub cube_general : (formula : Formula) (rest : List (Bor (List Formula))) (gathered cube slice : List Literal) (test : Bool) (answer : Option Solution) → rest ≡ [] → gathered ≡ [] → slice ≡ cube → IsFound (formula ∷ in_order rest) gathered cube None
+    → test ≡ list_any is_general slice → test ≡ true → IfSome answer (Solves formula) → IsSolution formula answer
+cube_general formula rest gathered cube slice test (Some solution) f h same found is e solves = solves
+cube_general formula rest gathered cube slice test None f h same found is e solves =
+    cube_solved formula rest gathered cube slice None f h same found (general_unsolved slice test is e)
 
 pub cube_clear : (formula : Formula) (rest : List (Bor (List Formula))) (gathered cube slice : List Literal) → rest ≡ [] → slice ≡ cube → IsFound (formula ∷ in_order rest) gathered cube None → HasNoClash slice
 cube_clear formula rest gathered cube slice f same found = subst HasNoClash (sym same) found.open_cube.no_clash

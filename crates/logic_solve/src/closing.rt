@@ -81,7 +81,11 @@ fn gather_row(
 }
 
 /// The rows of the literals under their numbers, of those with the same terms the tightest.
-fn gathered_rows(alloc: Global, side: u32, literals: &[Literal]) -> Result<Rows, AllocError>
+pub(crate) fn gathered_rows(
+    alloc: Global,
+    side: u32,
+    literals: &[Literal],
+) -> Result<Rows, AllocError>
     requires { length literals.now ≤ MOST_NODES }
     ensures { IfOk result (λ kept. IsStart literals.now kept) }
 {

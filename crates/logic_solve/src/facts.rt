@@ -220,6 +220,7 @@ fn moved_cert(
             None => Ok(None),
             Some(sums) => Ok(Some(Cert::Chain(Seq::of(sums)))),
         },
+        Cert::Cases { .. } => Ok(None),
     }
 }
 

@@ -15,6 +15,7 @@ use super::differences::edges_of;
 use super::facts::Facts;
 use super::paths::{Reached, height_of, positive_cycle};
 use super::search::search;
+use super::trying::general_solution;
 use super::valuation::{NumberAt, Solution};
 use base_list::Seq;
 use logic_cert::Literal;
@@ -77,7 +78,7 @@ fn note_flag(flags: &mut Vec<u32>, literal: &Literal) -> Result<(), AllocError>
 }
 
 /// The flags that the literals say to be true.
-fn true_flags(alloc: Global, literals: &[Literal]) -> Result<Vec<u32>, AllocError>
+pub(crate) fn true_flags(alloc: Global, literals: &[Literal]) -> Result<Vec<u32>, AllocError>
     ensures { IfOk result (λ flags. flags.items ≡ flat_map true_places literals.now) }
 {
     let mut flags = Vec::new(alloc);
@@ -134,7 +135,9 @@ fn solved(alloc: Global, literals: &[Literal]) -> Result<Option<Solution>, Alloc
 ///
 /// The search of a certificate ends at the first cube that it can't refute. Where the rows of this
 /// cube are difference rows, the heights to which longest paths raise their vertices are the
-/// numbers, each less that of the vertex 0.
+/// numbers, each less that of the vertex 0. Else whole numbers are chosen within the rows that the
+/// elimination of one variable after the other leaves, of this cube and of some others, and what is
+/// found is tried on the formula.
 pub fn solution(alloc: Global, formula: &Formula) -> Result<Option<Solution>, AllocError>
     requires { nodes_of formula.now ≤ MOST_NODES }
     ensures { IfOk result (IsSolution formula.now) }
@@ -147,5 +150,9 @@ pub fn solution(alloc: Global, formula: &Formula) -> Result<Option<Solution>, Al
     if let Some(_cert) = search(alloc, formula, &[], &mut literals, &mut facts)? {
         return Ok(None);
     }
-    Ok(solved(alloc, literals.as_slice())?)
+    let cube = literals.as_slice();
+    if has_general_row(cube) {
+        return Ok(general_solution(alloc, formula, cube)?);
+    }
+    Ok(solved(alloc, cube)?)
 }

@@ -37,7 +37,7 @@ impl Solution {
 }
 
 /// The number that the list gives first to the place, or 0.
-fn number_among(numbers: &[NumberAt], place: u32) -> i128
+pub(crate) fn number_among(numbers: &[NumberAt], place: u32) -> i128
     ensures { result ≡ number_among numbers.now place }
 {
     for one in numbers {

@@ -1,8 +1,6 @@
--- What statements make of valuations, and parts of formulas one after the other.
+-- What statements make of valuations.
 use Rattle.std.proofs.Common.{◌≡◌, ℕ, ◌+◌, ◌<◌, ◌≤◌, Bool, true, false, cond, List, [], ◌∷◌, ◌++◌, length, map, take, get_or, sym, ap, refl, arith, ◌∙◌}
-use Rattle.std.specs.List.{list_all, list_any}
 use Rattle.std.proofs.lemmas.List.{take_all, take_more}
-use Rattle.std.proofs.lemmas.List.Folds.{list_all-map, list_all_at, list_any_at}
 use Rattle.logic_linear.specs.declared.formula.Formula.{Formula}
 use Rattle.logic_linear.specs.Truth.{Valuation, truth_of}
 use Rattle.lang_monitor.specs.declared.monitor.Stmt.{Stmt}
@@ -10,7 +8,7 @@ use Rattle.lang_monitor.specs.declared.monitor.Stmt.TheVariants as statements
 use Rattle.lang_monitor.specs.Changes.{on_valuations}
 use Rattle.lang_monitor.specs.Statements.{Effect, in_turn, run_of}
 use Rattle.lang_monitor.proofs.Statements.{if_effect}
-use Rattle.plan_why.specs.inner.Running.{change_of, body_change, all_true, any_true}
+use Rattle.plan_why.specs.inner.Running.{change_of, body_change}
 
 -- ---- statements
 
@@ -48,21 +46,3 @@ ran_none (statement ∷ body) v now is = is
 
 pub ran_all : (body : List Stmt) (i : ℕ) (v now : Valuation) → length body ≤ i → now ≡ body_change (take i body) v → now ≡ body_change body v
 ran_all body i v now h so = so ∙ ap (λ (some : List Stmt). body_change some v) (take_all i body h)
-
--- ---- parts of a formula
-
-pub all_stops : (v : Valuation) (parts : List Formula) (i : ℕ) (part : Formula) → i < length parts → part ≡ get_or parts i part → false ≡ truth_of v part → false ≡ all_true v parts
-all_stops v parts i part h is held = sym (list_all-map (λ part. part) (truth_of v) parts ∙ list_all_at (truth_of v) parts i part h (ap (truth_of v) (sym is) ∙ sym held))
-
-pub all_ends : (v : Valuation) (parts : List Formula) (i : ℕ) → length parts ≤ i → list_all (truth_of v) (take i parts) ≡ true → true ≡ all_true v parts
-all_ends v parts i h held = sym (list_all-map (λ part. part) (truth_of v) parts ∙ ap (list_all (truth_of v)) (sym (take_all i parts h)) ∙ held)
-
-any_mapped : (v : Valuation) (parts : List Formula) → any_true v parts ≡ list_any (truth_of v) parts
-any_mapped v [] = refl
-any_mapped v (part ∷ parts) = grind (arith, any_mapped v parts)
-
-pub any_stops : (v : Valuation) (parts : List Formula) (i : ℕ) (part : Formula) → i < length parts → part ≡ get_or parts i part → true ≡ truth_of v part → true ≡ any_true v parts
-any_stops v parts i part h is held = sym (any_mapped v parts ∙ list_any_at (truth_of v) parts i part h (ap (truth_of v) (sym is) ∙ sym held))
-
-pub any_ends : (v : Valuation) (parts : List Formula) (i : ℕ) → length parts ≤ i → list_any (truth_of v) (take i parts) ≡ false → false ≡ any_true v parts
-any_ends v parts i h held = sym (any_mapped v parts ∙ ap (list_any (truth_of v)) (sym (take_all i parts h)) ∙ held)

@@ -1,12 +1,9 @@
--- Valuations with one value changed, and sums.
-use Rattle.std.proofs.Common.{◌≡◌, ℕ, ◌+◌, ◌<◌, ℤ, pos, ◌+ℤ◌, ◌*ℤ◌, Bool, true, false, not, cond, ◌||◌, List, [], ◌∷◌, ◌++◌, length, take, get_or, arith, ap, refl, sym, ◌∙◌}
+-- Valuations with one value changed.
+use Rattle.std.proofs.Common.{◌≡◌, ℕ, ℤ, Bool, true, false, not, cond, ◌||◌, List, [], ◌∷◌, ◌++◌, arith, ap, refl, sym, ◌∙◌}
 use Rattle.std.specs.Prelude.{◌==◌}
 use Rattle.std.specs.List.{filter}
-use Rattle.std.proofs.lemmas.Int.{ints}
-use Rattle.std.proofs.lemmas.List.{take_more}
 use Rattle.std.proofs.lemmas.List.Folds.{list_any-append}
-use Rattle.logic_linear.specs.declared.form.Term.{Term}
-use Rattle.logic_linear.specs.Truth.{Valuation, sum_of}
+use Rattle.logic_linear.specs.Truth.{Valuation}
 use Rattle.logic_solve.specs.declared.valuation.NumberAt.{NumberAt}
 use Rattle.logic_solve.specs.declared.valuation.Solution.{Solution}
 use Rattle.logic_solve.specs.Solutions.{number_among, is_listed, valuation_of}
@@ -88,21 +85,3 @@ put_truth at next place truth e f =
     same_valuation (valuation_of next) (with_truth place truth (valuation_of at))
     (λ other. ap (λ (some : List NumberAt). number_among some other) e)
     (λ other. ap (λ (some : List ℕ). is_listed some other) f ∙ flags_so place truth at.flags other)
-
--- ---- sums
-
-three : (a b c : ℤ) → a +ℤ (b +ℤ c) ≡ (a +ℤ b) +ℤ c
-three a b c = omega (arith, ints)
-
-alone : (a : ℤ) → a +ℤ pos 0 ≡ pos 0 +ℤ a
-alone a = omega (arith, ints)
-
-sum_push : (v : Valuation) (terms : List Term) (term : Term) → sum_of v (terms ++ term ∷ []) ≡ sum_of v terms +ℤ term.times *ℤ v.number term.place
-sum_push v [] term = alone (term.times *ℤ v.number term.place)
-sum_push v (first ∷ terms) term =
-    ap (λ (rest : ℤ). first.times *ℤ v.number first.place +ℤ rest) (sum_push v terms term)
-    ∙ three (first.times *ℤ v.number first.place) (sum_of v terms) (term.times *ℤ v.number term.place)
-
--- one more term
-pub sum_more : (v : Valuation) (terms : List Term) (i : ℕ) (default : Term) → i < length terms → sum_of v (take (i + 1) terms) ≡ sum_of v (take i terms) +ℤ (get_or terms i default).times *ℤ v.number (get_or terms i default).place
-sum_more v terms i default h = ap (sum_of v) (take_more terms i default h) ∙ sum_push v (take i terms) (get_or terms i default)

@@ -1,23 +1,11 @@
--- Numbers on the way that are outside 128 bits.
-use Rattle.std.proofs.Common.{◌≡◌, ℕ, zero, suc, ℤ, pos, ◌*ℤ◌, ◌<◌, Bool, true, false, List, [], ◌∷◌, ◌++◌, length, take, map, get_or, Option, Some, None, FitsSigned, sym, ap, subst, refl, arith, ◌∙◌}
-use Rattle.std.specs.Prelude.{int_le, SomeIff}
-use Rattle.std.specs.List.{Contains, flat_map}
-use Rattle.std.proofs.lemmas.List.Elements.{Contains-get_or}
-use mir.Syntax.{w128}
-use Rattle.lang_base.proofs.Members.{in_flat_map}
-use Rattle.logic_linear.specs.declared.form.Term.{Term}
+-- Numbers on the way through bodies that are outside 128 bits.
+use Rattle.std.proofs.Common.{◌≡◌, ℕ, zero, suc, ℤ, ◌<◌, Bool, true, false, List, [], ◌∷◌, ◌++◌, length, take, get_or, Option, Some, None, sym, ap, subst, arith, ◌∙◌}
 use Rattle.logic_linear.specs.declared.formula.Formula.{Formula}
-use Rattle.logic_linear.specs.declared.formula.Formula.TheVariants as formulas
-use Rattle.logic_linear.specs.declared.formula.Formula.TheOpen as layers
-use Rattle.logic_linear.specs.declared.formula.Formula.TheFolds.{fold-roll-Formula}
 use Rattle.logic_linear.specs.Linear.{Linear}
 use Rattle.logic_linear.specs.declared.substitution.Put.{Put}
 use Rattle.logic_linear.specs.declared.substitution.Put.TheVariants as puts
-use Rattle.logic_linear.specs.Places.{rows_of, rows_layer}
 use Rattle.logic_linear.specs.Substitution.{assigned}
-use Rattle.logic_linear.specs.Sums.{fits_128}
-use Rattle.logic_linear.specs.Truth.{Valuation, layer_truth, sum_of, truth_of, value_of}
-use Rattle.logic_linear.proofs.MergeLemmas.{fits_answer}
+use Rattle.logic_linear.specs.Truth.{Valuation, truth_of, value_of}
 use Rattle.lang_monitor.specs.declared.monitor.Stmt.{Stmt}
 use Rattle.lang_monitor.specs.declared.monitor.Stmt.TheVariants as statements
 use Rattle.lang_monitor.specs.Changes.{on_valuations}
@@ -25,68 +13,10 @@ use Rattle.lang_monitor.specs.Statements.{Effect}
 use Rattle.lang_monitor.proofs.Statements.{put_effect}
 use Rattle.logic_solve.specs.declared.valuation.Solution.{Solution}
 use Rattle.logic_solve.specs.Solutions.{valuation_of}
-use Rattle.plan_why.specs.WideNumbers.{HasWideSum, IsWideBody, IsWideForm, IsWideFormula, IsWidePut, product, front, assigns, test, taken, left, later}
-use Rattle.plan_why.specs.inner.Running.{all_true, any_true, body_change, change_of, with_number, with_truth, HasWidePart, IsAssigned, IsComputed, IsRun}
+use Rattle.logic_solve.specs.WideNumbers.{IsWideForm, IsWideFormula}
+use Rattle.plan_why.specs.WideNumbers.{IsWideBody, IsWidePut, assigns, test, taken, left, later}
+use Rattle.plan_why.specs.inner.Running.{body_change, change_of, with_number, with_truth, IsAssigned, IsRun}
 use Rattle.plan_why.proofs.Bodies.{takes_then, takes_other}
-
-pub computed : (found : Option ℤ) (x : ℤ) → SomeIff found (FitsSigned w128 x) x → IsComputed x (fits_128 x ≡ false) found
-computed None x h = fits_answer None x x h refl
-computed (Some value) x h = (fits_answer (Some value) x x h refl).0
-
-pub none_is : {X : Type 0} (value : X) (wide : Type 0) (found : Option X) → found ≡ None → wide → IsComputed value wide found
-none_is value wide found is so = subst (IsComputed value wide) (sym is) so
-
--- ---- sums
-
-pub wide_product : (v : Valuation) (terms : List Term) (i : ℕ) (default : Term) → i < length terms → fits_128 ((get_or terms i default).times *ℤ v.number (get_or terms i default).place) ≡ false → HasWideSum v terms
-wide_product v terms i default h wide = record { number = _; on_the_way = product (get_or terms i default) (Contains-get_or terms i default h); wide = wide }
-
-pub wide_front : (v : Valuation) (terms : List Term) (count : ℕ) (sum : ℤ) → sum ≡ sum_of v (take count terms) → fits_128 sum ≡ false → HasWideSum v terms
-wide_front v terms count sum is wide = record { number = _; on_the_way = front count; wide = ap fits_128 (sym is) ∙ wide }
-
--- ---- formulas
-
-pub truth_of_row : (v : Valuation) (form : Linear) → truth_of v (formulas.Row form) ≡ int_le (value_of v form) (pos 0)
-truth_of_row v form = ap (truth_of v) (sym (formulas.rolls-Row form)) ∙ fold-roll-Formula Bool (layer_truth v) (layers.Row form)
-
-truth_of_all : (v : Valuation) (parts : List Formula) → truth_of v (formulas.All parts) ≡ all_true v parts
-truth_of_all v parts = ap (truth_of v) (sym (formulas.rolls-All parts)) ∙ fold-roll-Formula Bool (layer_truth v) (layers.All parts)
-
-truth_of_any : (v : Valuation) (parts : List Formula) → truth_of v (formulas.Any parts) ≡ any_true v parts
-truth_of_any v parts = ap (truth_of v) (sym (formulas.rolls-Any parts)) ∙ fold-roll-Formula Bool (layer_truth v) (layers.Any parts)
-
-row_rows : (form : Linear) → rows_of (formulas.Row form) ≡ form ∷ []
-row_rows form = ap rows_of (sym (formulas.rolls-Row form)) ∙ fold-roll-Formula (List Linear) rows_layer (layers.Row form)
-
-all_rows : (parts : List Formula) → rows_of (formulas.All parts) ≡ flat_map (λ rows. rows) (map rows_of parts)
-all_rows parts = ap rows_of (sym (formulas.rolls-All parts)) ∙ fold-roll-Formula (List Linear) rows_layer (layers.All parts)
-
-any_rows : (parts : List Formula) → rows_of (formulas.Any parts) ≡ flat_map (λ rows. rows) (map rows_of parts)
-any_rows parts = ap rows_of (sym (formulas.rolls-Any parts)) ∙ fold-roll-Formula (List Linear) rows_layer (layers.Any parts)
-
-same_parts : (parts : List Formula) → flat_map (λ rows. rows) (map rows_of parts) ≡ flat_map rows_of parts
-same_parts [] = refl
-same_parts (part ∷ parts) = ap (λ rest. rows_of part ++ rest) (same_parts parts)
-
-pub in_row : (v : Valuation) (formula : Formula) (form : Linear) (held : Option Bool) → formula ≡ formulas.Row form → IsComputed (int_le (value_of v form) (pos 0)) (IsWideForm v form) held → IsComputed (truth_of v formula) (IsWideFormula v formula) held
-in_row v formula form (Some whether) is so = so ∙ sym (ap (truth_of v) is ∙ truth_of_row v form)
-in_row v formula form None is wide = record { row = form; there = subst (λ rows. Contains rows form) (sym (ap rows_of is ∙ row_rows form)) (Contains-get_or (form ∷ []) 0 form (omega arith)); wide = wide }
-
-wide_parts : (v : Valuation) (formula : Formula) (parts : List Formula) → rows_of formula ≡ flat_map (λ rows. rows) (map rows_of parts) → HasWidePart v parts → IsWideFormula v formula
-wide_parts v formula parts is has =
-    let found = has.wide in
-    record { row = found.row; there = subst (λ rows. Contains rows found.row) (sym (is ∙ same_parts parts)) (in_flat_map rows_of parts has.part found.row has.there found.there); wide = found.wide }
-
-pub in_all : (v : Valuation) (formula : Formula) (parts : List Formula) (held : Option Bool) → formula ≡ formulas.All parts → IsComputed (all_true v parts) (HasWidePart v parts) held → IsComputed (truth_of v formula) (IsWideFormula v formula) held
-in_all v formula parts (Some whether) is so = so ∙ sym (ap (truth_of v) is ∙ truth_of_all v parts)
-in_all v formula parts None is has = wide_parts v formula parts (ap rows_of is ∙ all_rows parts) has
-
-pub in_any : (v : Valuation) (formula : Formula) (parts : List Formula) (held : Option Bool) → formula ≡ formulas.Any parts → IsComputed (any_true v parts) (HasWidePart v parts) held → IsComputed (truth_of v formula) (IsWideFormula v formula) held
-in_any v formula parts (Some whether) is so = so ∙ sym (ap (truth_of v) is ∙ truth_of_any v parts)
-in_any v formula parts None is has = wide_parts v formula parts (ap rows_of is ∙ any_rows parts) has
-
-pub wide_part : (v : Valuation) (parts : List Formula) (i : ℕ) (part : Formula) → i < length parts → part ≡ get_or parts i part → IsWideFormula v part → HasWidePart v parts
-wide_part v parts i part h is wide = record { part = part; there = subst (Contains parts) (sym is) (Contains-get_or parts i part h); wide = wide }
 
 -- ---- bodies
 

@@ -6,7 +6,6 @@
 #![tactic(auto)]
 
 mod answering;
-mod evaluate;
 mod failing;
 mod listing;
 mod reason;

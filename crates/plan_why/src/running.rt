@@ -6,11 +6,10 @@ ghost use Rattle.logic_solve.specs.Solutions.{valuation_of};
 ghost use Rattle.plan_why.specs.inner.Running.{flags_with, is_other, with_number};
 ghost use Rattle.plan_why.specs.inner.Running.{with_truth, IsAssigned, IsRun};
 
-use super::evaluate::{form_value, formula_truth};
 use base_list::Seq;
 use lang_monitor::Stmt;
 use logic_linear::Put;
-use logic_solve::{NumberAt, Solution};
+use logic_solve::{NumberAt, Solution, form_value, formula_truth};
 use std::alloc::{AllocError, Global};
 
 /// The number first, and then the others.

@@ -12,12 +12,11 @@ ghost use Rattle.logic_wp.specs.NegatedQueries.{negated_query};
 ghost use Rattle.plan_why.specs.Failures.{IsFailure};
 ghost use Rattle.plan_why.specs.inner.Running.{with_number};
 
-use super::evaluate::form_value;
 use super::failing::Failure;
 use super::running::{after_body, with_number};
 use lang_monitor::{Monitor, Query};
 use logic_linear::{Formula, Lin, Put, substitute, substitution_keeps_truth};
-use logic_solve::{Solution, solution};
+use logic_solve::{Solution, form_value, solution};
 use logic_wp::negated_query_is_exact;
 use std::alloc::{AllocError, Global};
 

@@ -5,6 +5,8 @@
 #![tactic(auto)]
 
 #[cfg(test)]
+mod cases;
+#[cfg(test)]
 mod deciding;
 #[cfg(test)]
 mod differences;
@@ -14,3 +16,5 @@ mod range;
 mod refuting;
 #[cfg(test)]
 mod shapes;
+#[cfg(test)]
+mod solving;

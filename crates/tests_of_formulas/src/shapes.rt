@@ -14,7 +14,7 @@ use std::test::Fail;
 pub(crate) const BOUND: i128 = 1 << 95;
 
 /// A part of a formula told by plain data.
-#[derive(Clone, Copy)]
+#[derive(Clone, Copy, Debug)]
 pub(crate) enum Shape<'a> {
     /// So many times the variables of these places, and this constant, add up to at most 0.
     Row(&'a [(u32, i128)], i128),

@@ -4,7 +4,7 @@ use Rattle.std.specs.Prelude.{if◌then◌else◌, List, [], ◌∷◌, ◌++◌
 use Rattle.std.specs.Prelude.{None, slice_get}
 use Rattle.std.specs.List.{AllByRecursion as Each}
 use Rattle.logic_cert.specs.declared.cert.Cert.{Cert}
-use Rattle.logic_cert.specs.declared.cert.Cert.TheOpen.{Cert-F, Split, Clash, Chain}
+use Rattle.logic_cert.specs.declared.cert.Cert.TheOpen.{Cert-F, Split, Clash, Chain, Cases}
 use Rattle.logic_cert.specs.declared.cert.Combine.{Combine}
 use Rattle.logic_cert.specs.declared.cert.Literal.{Literal}
 use Rattle.logic_cert.specs.declared.cert.Literal.TheVariants.{Row, Flag}
@@ -95,15 +95,18 @@ IsMovedClash numbers count left right (Split certs) = ⊥
 IsMovedClash numbers count left right (Clash left_after right_after) =
     (left_after ≡ moved numbers count left) × (right_after ≡ moved numbers count right)
 IsMovedClash numbers count left right (Chain sums) = ⊥
+IsMovedClash numbers count left right (Cases form below above) = ⊥
 
 abbrev pub IsMovedChain : List ℕ → ℕ → List Combine → Cert-F Cert → Type 0
 IsMovedChain numbers count sums (Split certs) = ⊥
 IsMovedChain numbers count sums (Clash left right) = ⊥
 IsMovedChain numbers count sums (Chain sums_after) =
     sums_after ≡ map (moved_sum numbers count) sums
+IsMovedChain numbers count sums (Cases form below above) = ⊥
 
 -- The same clash or chain, with its numbers among so many literals.
 abbrev pub IsMoved : List ℕ → ℕ → Cert-F Cert → Cert-F Cert → Type 0
 IsMoved numbers count (Split certs) after = ⊥
 IsMoved numbers count (Clash left right) after = IsMovedClash numbers count left right after
 IsMoved numbers count (Chain sums) after = IsMovedChain numbers count sums after
+IsMoved numbers count (Cases form below above) after = ⊥

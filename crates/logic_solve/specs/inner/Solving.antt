@@ -1,9 +1,10 @@
 -- For private contracts: the literals of a cube, and the heights of their edges, as a solution.
-use Rattle.std.specs.Prelude.{◌≡◌, ℕ, ◌+◌, ◌^◌, ◌-ℤ◌, List, [], ◌∷◌, map, Option, Some, None}
+use Rattle.std.specs.Prelude.{◌≡◌, true, ℕ, ◌+◌, ◌^◌, ◌-ℤ◌, List, [], ◌∷◌, map, Option, Some, None}
 use Rattle.std.specs.Prelude.{if◌then◌else◌}
 use Rattle.std.specs.List.{flat_map}
 use Rattle.logic_linear.specs.LightCubes.{IsWithin}
-use Rattle.logic_linear.specs.Truth.{Valuation}
+use Rattle.logic_linear.specs.declared.formula.Formula.{Formula}
+use Rattle.logic_linear.specs.Truth.{Valuation, truth_of}
 use Rattle.logic_cert.specs.declared.cert.Literal.{Literal}
 use Rattle.logic_cert.specs.declared.cert.Literal.TheVariants.{Row, Flag}
 use Rattle.logic_solve.specs.declared.paths.Reached.{Reached}
@@ -35,6 +36,10 @@ pub record StandsSo (literals : List Literal) (reached : List Reached) (solution
   pub numbers : solution.numbers
       ≡ map (number_in reached) (noted [] (terms_in_literals literals))
   pub flags : solution.flags ≡ flat_map true_places literals
+
+-- The formula is true at the solution.
+abbrev pub Solves : Formula → Solution → Type 0
+Solves formula solution = truth_of (valuation_of solution) formula ≡ true
 
 -- The literals are true at the solution. There is none of literals that are difference rows only
 -- where they are true at no valuation.

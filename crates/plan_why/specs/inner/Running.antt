@@ -1,16 +1,15 @@
 -- For private contracts: valuations with one value changed, and what is computed in 128 bits.
-use Rattle.std.specs.Prelude.{◌≡◌, ℕ, ℤ, ◌==◌, Bool, not, List, [], ◌∷◌, ◌++◌, map, Option}
+use Rattle.std.specs.Prelude.{◌≡◌, ℕ, ℤ, ◌==◌, Bool, not, List, [], ◌∷◌, ◌++◌, Option}
 use Rattle.std.specs.Prelude.{Some, None, if◌then◌else◌}
-use Rattle.std.specs.List.{filter, list_all, list_any, Contains}
-use Rattle.logic_linear.specs.declared.formula.Formula.{Formula}
+use Rattle.std.specs.List.{filter}
 use Rattle.logic_linear.specs.declared.substitution.Put.{Put}
 use Rattle.logic_linear.specs.Substitution.{assigned}
-use Rattle.logic_linear.specs.Truth.{Valuation, truth_of}
+use Rattle.logic_linear.specs.Truth.{Valuation}
 use Rattle.lang_monitor.specs.declared.monitor.Stmt.{Stmt}
 use Rattle.logic_solve.specs.declared.valuation.Solution.{Solution}
 use Rattle.logic_solve.specs.Solutions.{valuation_of}
 pub use Rattle.lang_monitor.specs.Changes.{change_of, body_change}
-use Rattle.plan_why.specs.WideNumbers.{IsWideBody, IsWideFormula, IsWidePut}
+use Rattle.plan_why.specs.WideNumbers.{IsWideBody, IsWidePut}
 
 -- ---- one value changed
 
@@ -35,26 +34,7 @@ abbrev pub flags_with : ℕ → Bool → List ℕ → List ℕ
 flags_with place truth flags =
     filter (is_other place) flags ++ (if truth then place ∷ [] else [])
 
--- ---- parts of a formula
-
-abbrev pub all_true : Valuation → List Formula → Bool
-all_true v parts = list_all (λ part. part) (map (truth_of v) parts)
-
-abbrev pub any_true : Valuation → List Formula → Bool
-any_true v parts = list_any (λ part. part) (map (truth_of v) parts)
-
 -- ---- what is computed
-
--- what is found is this value; there is none only where a number is wide
-abbrev pub IsComputed : {X : Type 0} → X → Type 0 → Option X → Type 0
-IsComputed value wide (Some found) = found ≡ value
-IsComputed value wide None = wide
-
--- some part of a formula is wide
-pub record HasWidePart (v : Valuation) (parts : List Formula) : Type 0 where
-  pub part : Formula
-  pub there : Contains parts part
-  pub wide : IsWideFormula v part
 
 -- the valuation that is found is that after the assignment; there is none only where a number is
 -- wide

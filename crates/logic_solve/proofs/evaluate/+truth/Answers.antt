@@ -1,10 +1,11 @@
 use Rattle.std.proofs.Common.{◌≡◌, false, List, arith, subst, sym, ◌∙◌}
 use Rattle.logic_linear.specs.declared.formula.Formula.{Formula}
 use Rattle.logic_solve.specs.Solutions.{valuation_of}
-use Rattle.plan_why.specs.inner.Running.{all_true, any_true, HasWidePart, IsComputed}
-use Rattle.plan_why.proofs.Bodies.{all_stops, all_ends, any_stops, any_ends}
-use Rattle.plan_why.proofs.Wide.{in_all, in_any}
-use Rattle.plan_why.proofs.evaluate.+truth.Goals as goal
+use Rattle.logic_solve.specs.WideNumbers.{IsComputed}
+use Rattle.logic_solve.specs.inner.Evaluating.{all_true, any_true, HasWidePart}
+use Rattle.logic_solve.proofs.Evaluation.{all_stops, all_ends, any_stops, any_ends}
+use Rattle.logic_solve.proofs.Evaluation.{in_all, in_any}
+use Rattle.logic_solve.proofs.evaluate.+truth.Goals as goal
 
 pub all_hold-returns-then-not-held : goal.all_hold-returns-then-not-held
 all_hold-returns-then-not-held t c =

@@ -5,10 +5,10 @@ use mir.Val.{SFits, to_z}
 use Rattle.logic_linear.specs.declared.form.Term.{Term}
 use Rattle.logic_linear.specs.Truth.{sum_of}
 use Rattle.logic_solve.specs.Solutions.{valuation_of}
-use Rattle.plan_why.specs.WideNumbers.{HasWideSum}
-use Rattle.plan_why.proofs.Valuations.{sum_more}
-use Rattle.plan_why.proofs.Wide.{none_is, wide_product, wide_front}
-use Rattle.plan_why.proofs.evaluate.terms_value.Goals as goal
+use Rattle.logic_solve.specs.WideNumbers.{HasWideSum}
+use Rattle.logic_solve.proofs.Evaluation.{sum_more}
+use Rattle.logic_solve.proofs.Evaluation.{none_is, wide_product, wide_front}
+use Rattle.logic_solve.proofs.evaluate.terms_value.Goals as goal
 
 abbrev no_term : Term
 no_term = record { place = 0; times = pos 0 }

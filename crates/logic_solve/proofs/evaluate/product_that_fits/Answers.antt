@@ -2,8 +2,8 @@ use Rattle.std.proofs.Common.{◌*ℤ◌}
 use Rattle.std.proofs.lemmas.Int.{to_z-of_z}
 use mir.Syntax.{w128}
 use mir.Val.{SFits}
-use Rattle.plan_why.proofs.Wide.{computed}
-use Rattle.plan_why.proofs.evaluate.product_that_fits.Goals as goal
+use Rattle.logic_solve.proofs.Evaluation.{computed}
+use Rattle.logic_solve.proofs.evaluate.product_that_fits.Goals as goal
 
 pub returns : goal.returns
 returns c =

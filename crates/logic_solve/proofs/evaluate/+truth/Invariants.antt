@@ -2,7 +2,7 @@ use Rattle.std.proofs.Common.{◌≡◌, true, false, take}
 use Rattle.std.specs.List.{list_all, list_any}
 use Rattle.logic_linear.specs.Truth.{truth_of}
 use Rattle.logic_solve.specs.Solutions.{valuation_of}
-use Rattle.plan_why.proofs.evaluate.+truth.Given as goal
+use Rattle.logic_solve.proofs.evaluate.+truth.Given as goal
 
 abbrev pub invariant-all_hold-loop-part : goal.invariant-all_hold-loop-part
 invariant-all_hold-loop-part l = list_all (truth_of (valuation_of l.at)) (take l.part-index l.parts) ≡ true

@@ -4,11 +4,11 @@ ghost use Rattle.std.specs.Prelude.{◌≡◌, ◌+ℤ◌, ◌*ℤ◌, false, in
 ghost use Rattle.logic_linear.specs.Sums.{fits_128};
 ghost use Rattle.logic_linear.specs.Truth.{sum_of, truth_of, value_of};
 ghost use Rattle.logic_solve.specs.Solutions.{valuation_of};
-ghost use Rattle.plan_why.specs.WideNumbers.{HasWideSum, IsWideForm, IsWideFormula};
-ghost use Rattle.plan_why.specs.inner.Running.{all_true, any_true, HasWidePart, IsComputed};
+ghost use Rattle.logic_solve.specs.WideNumbers.{HasWideSum, IsComputed, IsWideForm, IsWideFormula};
+ghost use Rattle.logic_solve.specs.inner.Evaluating.{all_true, any_true, HasWidePart};
 
+use super::valuation::Solution;
 use logic_linear::{Formula, Lin, Term};
-use logic_solve::Solution;
 
 /// The product of two numbers, where it fits.
 fn product_that_fits(first: i128, second: i128) -> Option<i128>
@@ -45,8 +45,8 @@ fn terms_value(at: &Solution, terms: &[Term]) -> Option<i128>
     Some(sum)
 }
 
-/// The value of a form, where it and each sum on the way fits.
-pub(crate) fn form_value(at: &Solution, form: &Lin) -> Option<i128>
+/// The value of a form at a solution, where it and each product and sum on the way fits 128 bits.
+pub fn form_value(at: &Solution, form: &Lin) -> Option<i128>
     ensures { IsComputed (value_of (valuation_of at.now) form.now)
         (IsWideForm (valuation_of at.now) form.now) result }
 {
@@ -63,9 +63,10 @@ fn row_truth(at: &Solution, form: &Lin) -> Option<bool>
     Some(value <= 0)
 }
 
-/// Whether a formula is true, where each value that is looked at fits.
+/// Whether a formula is true at a solution, where each value that is looked at fits 128 bits, and
+/// so does each number on the way to it.
 #[cycle(truth)]
-pub(crate) fn formula_truth(at: &Solution, formula: &Formula) -> Option<bool>
+pub fn formula_truth(at: &Solution, formula: &Formula) -> Option<bool>
     ensures { IsComputed (truth_of (valuation_of at.now) formula.now)
         (IsWideFormula (valuation_of at.now) formula.now) result }
 {
