@@ -30,7 +30,7 @@ pub fn check(alloc: Global, tree: &MonitorTree) -> Result<Monitor, SourceError>
     // and a fault is the first of those that are.
     ensures fault { IfErr result (λ error. IsFirstOf (faults_of tree.now) error) }
 {
-    names_are_identifiers();
+    names_are_identifiers(); // those of a tree that was read, as the rule of a monitor asks
     match fault_in_monitor(alloc, tree)? {
         Some(fault) => Err(SourceError::Fault(fault)),
         None => Ok(monitor_of(alloc, tree)?),

@@ -10,5 +10,5 @@ use logic_wp::guard_without_inputs_stays;
 pub fn answers_count()
     ensures { AnswersCount }
 {
-    guard_without_inputs_stays();
+    guard_without_inputs_stays(); // a client that waits has the condition's own guard
 }

@@ -52,7 +52,7 @@ fn parts_of(
         it.hyps.items it.idle.items it.guard it.shut it.form it.bounded) }
 {
     let _conditions = monitor.conditions();
-    guard_without_inputs_stays();
+    guard_without_inputs_stays(); // a client that waits has the condition's own guard
     // The hypotheses are these whatever the candidate is.
     let some = Candidate::Flag { field: 0, is: true };
     let Query {

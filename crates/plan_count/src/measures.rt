@@ -47,7 +47,7 @@ pub fn has_row(monitor: &Monitor, condition: u32, row: u32) -> bool
     requires { ReadsNone monitor.now condition }
     ensures { IsTrue result ↔ HasRowAt monitor.now condition row }
 {
-    guard_without_inputs_stays();
+    guard_without_inputs_stays(); // a client that waits has the condition's own guard
     let held = &monitor.conditions()[condition as usize - 1];
     row >= 1 && rows_after(&held.guard, row) == 0
 }

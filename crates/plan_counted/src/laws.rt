@@ -16,8 +16,8 @@ pub(crate) fn answered_columns_count()
     ensures lawful { AnsweredColumnsCount }
     ensures counted { AnsweredColumnsLicense }
 {
-    answers_count();
-    counting_applies();
+    answers_count(); // valid questions leave a condition counted
+    counting_applies(); // and a plan whose conditions are counted is lawful by counting
 }
 
 /// A counted plan is exact where the prover may leave no question open: a condition that was of

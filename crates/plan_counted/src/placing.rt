@@ -55,9 +55,9 @@ pub fn count_plan(
     ensures omits { IfOk result (λ it. OmitsNoMore placed.now it.plan) }
 {
     let _blocks = monitor.blocks();
-    answered_columns_count();
-    counted_plans_are_exact();
-    counted_plans_omit_no_more();
+    answered_columns_count(); // gives `fits`, `lawful` and `counted`
+    counted_plans_are_exact(); // gives `exact`
+    counted_plans_omit_no_more(); // gives `omits`
     candidates_have_formulas(monitor);
     let columns = columns_of(alloc, monitor, placed)?;
     let plan = counted_plan(alloc, placed, &columns)?;

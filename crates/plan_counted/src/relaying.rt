@@ -44,9 +44,9 @@ pub fn relay_uncounted(
     ensures omits { IfOk result (λ plan. OmitsNoMore placed.now plan) }
 {
     let _blocks = monitor.blocks();
-    counting_loses_no_wakeup();
-    mixed_plans_are_lawful();
-    relayed_plans_are_lawful();
+    counting_loses_no_wakeup(); // a lawful plan is lawful by counting too
+    mixed_plans_are_lawful(); // and so is one that has parts of two such plans
+    relayed_plans_are_lawful(); // one of which is the relayed plan
     let relayed = relay(alloc, monitor, placed)?;
     let plan = counted_plan(alloc, &relayed, counted.columns.items())?;
     Ok(plan)

@@ -26,7 +26,7 @@ pub fn fit_of(
     requires block { block < length monitor.now.blocks }
     ensures { IfOk result (IsFitAnswer monitor.now kept.now block) }
 {
-    refuted_formula_is_false();
+    refuted_formula_is_false(); // so a block fits whose question is refuted
     monitor.blocks();
     match outside_question(alloc, monitor, kept, block)? {
         None => Ok(None),

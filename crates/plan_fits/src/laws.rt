@@ -13,7 +13,7 @@ pub fn questions_are_exact()
 pub fn certified_blocks_fit()
     ensures { CertifiedBlocksFit }
 {
-    refuted_formula_is_false();
+    refuted_formula_is_false(); // so a question that is refuted is true at no valuation
 }
 
 /// A block that assigns and answers no number fits, and its question never stays open.

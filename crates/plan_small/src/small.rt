@@ -147,7 +147,7 @@ pub fn is_small(alloc: Global, monitor: &Monitor) -> Result<bool, AllocError>
     ensures plain { IfOk result (λ answer. IsTrue answer ↔ IsPlain monitor.now) }
     ensures small { IfOk result (λ answer. IsTrue answer → IsSmall monitor.now) }
 {
-    plain_claims_are_not_hard();
+    plain_claims_are_not_hard(); // `small` follows from `plain`
     candidates_have_formulas(monitor);
     let simple = are_simple_blocks(monitor.blocks());
     if !simple {

@@ -46,6 +46,6 @@ pub fn scripts_read(alloc: Global, text: &[u8], monitor: &Monitor) -> Option<Scr
 {
     let read = tokens_of(alloc, text)?;
     let tree = parse_clients(alloc, text, &read).ok()?;
-    names_are_identifiers();
+    names_are_identifiers(); // those of a tree that was read, as `clients` asks
     clients(alloc, &tree, monitor).ok()
 }
