@@ -11,7 +11,7 @@ use std::test::Fail;
 
 fn verdict_of(alloc: Global, monitor: &Monitor) -> Result<Verdict, AllocError> {
     let placed = place(alloc, monitor)?;
-    placed_text_is_report_text();
+    placed_text_is_report_text(); // so `recheck` may be asked of its report
     let report = report_of(alloc, placed)?;
     recheck(alloc, monitor, &report)
 }

@@ -15,8 +15,6 @@ mod opening;
 #[cfg(test)]
 mod pools;
 #[cfg(test)]
-mod rising;
-#[cfg(test)]
 mod sharing;
 #[cfg(test)]
 mod tickets;
