@@ -9,6 +9,8 @@ their width soon, the test `narrow` takes WIDTH as the most.
 A call that waits for a time, as `put_for`, is one until then, or, where the clock does not get there, one that waits:
 of these it is read whether they say so.
 
+A module with parameters is opened with each of a few numbers that its monitor admits, and with those of its file.
+
 The data of a module are the fields once more: what a body does to the fields, the function that the call is given does
 to the data, and where none is given they change with the fields.
 
@@ -21,6 +23,13 @@ Checked of each state that is reached, where nobody holds the mutex:
   changes   a call that is refused, or overflows, or whose function panics, has changed nothing in its last block
   data      the data are as the fields: each function runs once, and while its thread has the mutex
   poison    where a function has panicked the mutex is still taken
+  keeps     the fields are as the kept lines of the plan say
+
+and of each text
+
+  opens     `new` panics where the monitor does not admit its numbers, and there alone; else each field starts as the
+            monitor says
+  copies    what notes hang on is a copy of the fields and of the counts
 
 What a thread does while it has the mutex is one step: nothing else reaches what the mutex guards. It ends with status 1
 where a module breaks one of these, or where a fault does not break the one that it should.
@@ -40,6 +49,7 @@ from emitted import Source, module_text  # noqa: E402
 ROOT = pathlib.Path(__file__).resolve().parent.parent
 WIDTH = 2
 KINDS = {"i64": (1, 2), "bool": (False, True)}
+FEW = (0, 1, 2, 3)
 MOST_STATES = 40_000
 
 
@@ -158,16 +168,86 @@ def check_lasting(name, inputs, body):
         raise Broken(f"times: {name}")
 
 
-class Module:
-    """What threads do by the text of a module."""
+# ---- what a module is opened with
+CONST = r"const fn %s\(([^)]*)\) -> \w+ \{\n(.*?)^    \}"
+START = r"const (?:START: Self =|fn start\([^)]*\) -> Self \{)\s*Self \{(.*?)\}"
+COPY = r"    fn copy\(&self\) -> Inner \{\n +Inner \{\n(.*?) +data: \(\),\n"
 
-    def __init__(self, text, names=r"\w+"):
+
+def declared(monitor):
+    """The kind, the name, the start and the limit of each declaration."""
+    return re.findall(r"^  (const|param|int|bool) (\w+) = (-?\w+)(?: where \((.*)\))?;", monitor, re.M)
+
+
+def choices(monitor):
+    """What may be chosen for the parameters, of a few numbers and, for each, the one that stands in the file."""
+    few = [sorted({*FEW, int(start)}) for kind, _, start, _ in declared(monitor) if kind == "param"]
+    return [chosen for chosen in itertools.product(*few) if opened(monitor, chosen) is not None]
+
+
+def opened(monitor, chosen):
+    """The fields of a monitor that is opened with these numbers, or None where it does not admit them."""
+    values, fields, numbers = {"true": True, "false": False}, {}, iter(chosen)
+    for kind, name, start, limit in declared(monitor):
+        values[name] = next(numbers) if kind == "param" else eval(start, {}, values)
+        if limit and not eval(limit, {}, values):
+            return None
+        if kind != "const":
+            fields[name] = values[name]
+    return fields
+
+
+def started(text, chosen, constants):
+    """The fields of a module that is opened with these numbers, or None where it panics."""
+    def body(name, numbers):
+        names, lines = re.search(CONST % name, text, re.M | re.S).groups()
+        return lines, dict(zip(re.findall(r"(\w+): i64", names), numbers))
+
+    def handed(name, lines, values):
+        given = re.search(name + r"\(([^()]*)", lines)[1].split(", ")
+        return [eval(python(one, ()), {}, dict(values, data=())) for one in given if one]
+
+    lines, values = body("with_data", handed("with_data", *body("new", chosen)))
+    if "assert!" in lines:
+        test, known = body("admits", handed("admits", lines, values))
+        if not eval(python(test.strip(), ()), {}, known):
+            return None
+    values = body("start", handed("start", lines, values))[1] if "::start(" in lines else {}
+    fields = re.findall(r"^ +(\w+)(?:: (.*))?,$", re.search(START, text, re.S)[1], re.M)
+    return {name: eval(python(start or name, ()), dict(constants), values) for name, start in fields}
+
+
+def check_opening(text, monitor, constants):
+    """A module starts as its monitor says, or panics, also with the numbers about each limit."""
+    bounds = [re.findall(r"-?\d+", limit) for kind, *_, limit in declared(monitor) if kind == "param"]
+    for chosen in itertools.product(*[{*FEW, *(int(bound) + by for by in (-1, 0, 1))} for (bound,) in bounds]):
+        wanted, fields = opened(monitor, chosen), started(text, chosen, constants)
+        if (wanted and list(wanted.values())) != (fields and list(fields.values())):
+            raise Broken("opens")
+
+
+def kept(text, monitor):
+    """Whether the kept lines of the plan are true of the fields."""
+    names = [name for kind, name, *_ in declared(monitor) if kind != "const"]
+    places = {name: f"fields[{place}]" for place, name in enumerate(names)}
+    lines = [re.sub(r"\w+", lambda word: places.get(word[0], word[0]), line)
+             for line in re.findall(r"^keep (.*)$", text, re.M)]
+    return eval(f"lambda fields: all(({''.join(python(line, ()) + ', ' for line in lines)}))")
+
+
+class Module:
+    """What threads do by the text of a module that is opened with these numbers."""
+
+    def __init__(self, text, monitor, chosen, names=r"\w+"):
         constants = {name: int(value) for name, value in re.findall(r"pub const (\w+): i64 = (-?\d+);", text)}
-        start = re.search(r"const START: Self = Self \{(.*?)\};", text, re.S)[1]
-        fields = re.findall(r"(\w+): (-?\w+),", start)
-        self.fields = [name for name, _ in fields]
-        self.start = tuple(value == "true" if value in ("true", "false") else int(value) for _, value in fields)
+        check_opening(text, monitor, constants)
+        start = started(text, chosen, constants)
+        self.fields, self.start = list(start), tuple(start.values())
+        self.keeps = functools.lru_cache(None)(kept(text, monitor))
         self.counts = re.findall(r"^    (asleep\w+): usize,", text, re.M)
+        copied = re.findall(r"(\w+): (.*),", re.search(COPY, text, re.S)[1])
+        if copied != [(one, f"self.{one}") for one in ["state", *self.counts]]:
+            raise Broken("copies")
         self.functions = {}
         functions = re.search(r"^impl State \{\n(.*?)^\}", text, re.M | re.S)[1]
         for head, body in re.findall(r"^(    fn .*) \{(?:\}|\n((?:        .*\n)*)    \})", functions, re.M):
@@ -409,6 +489,8 @@ class Explorer:
         waits = [one.where[1] for one in threads if one.where[0] in ("asleep", "woken")]
         if any(number != waits.count(name.replace("asleep", "can", 1)) for name, number in zip(self.m.counts, counts)):
             raise Broken("counts")
+        if not self.m.keeps(fields):
+            raise Broken("keeps")
         coming = {one.where[1] for one in threads if one.where[0] == "woken"}
         coming |= {name for one in threads for name in self.notes(one)}
         for one in threads:
@@ -442,18 +524,38 @@ TALLY = """monitor Tally {
   }
 }
 """
-TEXTS = {path.stem: path.read_text() for top in ("bench/emitted", "examples") for path in (ROOT / top).rglob("*.rs")}
+# what was taken is given back, and nothing else
+POOL = """monitor Pool {
+  param SIZE = 2 where (SIZE >= 1);
+  int free = SIZE;
+  method take() waituntil (free > 0) {
+    free = free - 1;
+  }
+  method give() asserts (free < SIZE) {
+    free = free + 1;
+  }
+}
+"""
+POOL_PLAN = "keep SIZE >= 1\nkeep free >= 0\nkeep free <= SIZE\nblock take: none\nblock give: 1 signal\n"
+DATA, DERIVED = "crates/expresso_cli/data", "crates/expresso_cli/data/derived"
+KEPT = ("bench/emitted", "examples/*/monitors")
+TEXTS = {path.stem: path.read_text() for top in KEPT for path in ROOT.glob(f"{top}/*.rs")}
+MONITORS = {"derived_" * (top == DERIVED) + path.stem: path.read_text()
+            for top in (DATA, DERIVED, *KEPT) for path in ROOT.glob(f"{top}/*.mon")}
+MONITORS |= {"tally": TALLY, "pool": POOL}
 TEXTS["tally"] = module_text(Source(TALLY, "block put: 2 signal\nblock take: 1 signal\n", whole=["put"]))
+TEXTS["pool"] = module_text(Source(POOL, POOL_PLAN, whole=["take", "give"]))
 # how many calls each thread makes
 CASES = {
     "buffer": [(3, 3), (2, 2, 1)], "lock": [(2, 2, 1)], "semaphore": [(2, 2, 1)], "twice": [(2, 2, 2)],
     "meeting": [(2, 2, 1)], "up": [(2, 1)], "barrier": [(2, 2, 1)], "readers_writers": [(3, 2), (2, 1, 1)],
     "account": [(2, 2)], "names": [(1, 1)], "derived_weights": [(2, 1, 1)], "job_gate": [(2, 2)],
     "map_gate": [(2, 2)], "shelf": [(2, 1), (1, 1, 1)], "tally": [(2, 2), (1, 1, 1)],
+    "room": [(2, 2), (2, 1, 1)], "queue": [(2, 2), (1, 1, 1)], "pool": [(3, 3), (2, 2, 1)],
 }
 # A fault, the module, the calls of each thread, what it breaks, what stands for the first such text of the module, and
-# of which methods the calls are.
-Fault = namedtuple("Fault", "name module calls breaks text instead names", defaults=[r"\w+"])
+# of which methods the calls are, and what the module is opened with.
+Fault = namedtuple("Fault", "name module calls breaks text instead names chosen", defaults=[r"\w+", ()])
 PLAIN = r"(?!try_)\w+(?<!_with)(?<!_until)"
 LOOP = r"( +inner = wait\(.*\n)( +inner\.\w+ -= 1;\n)"
 NOTE = r"        if copy\.asleep_get > 0 \{\n    (.*\n)        \}\n"
@@ -511,34 +613,64 @@ FAULTS = [
           r"( +while !.*\n +let Some(?:.*\n){7})( +inner\.state\.run_put\(\);\n)", r"\2\1"),
     Fault("a call for a time that is another", "buffer", (1,), "times: put_for", r"self\.put_until\(end\)",
           "self.get_until(end)"),
+    Fault("no note where the function panics in a room of one", "room", (1, 1, 1), "pending",
+          r" +self\.0\.notify_one\(\);\n", "", chosen=(1,)),
+    Fault("who gives up in a room of one has not tested again", "room", (1, 1, 1), "refusals", TIMED, r"\2\1",
+          chosen=(1,)),
+    Fault("a function after the mutex of a room is given back", "room", (2, 1), "data", AFTER, r"\2\1", chosen=(3,)),
+    Fault("an `if` for a `while` in a room of two", "room", (3, 1), "guards", r"while !", "if !", PLAIN, (2,)),
+    Fault("one is woken in place of all where a queue is closed", "queue", (1, 1, 1), "pending", "notify_all",
+          "notify_one", PLAIN, (1, 1)),
+    Fault("an assertion that reads what stands in the file", "pool", (1,), "keeps", r"self\.free < self\.size",
+          "self.free < 2", chosen=(1,)),
+    Fault("no note after an assertion in a pool of one", "pool", (2, 2), "pending", r"        if copy\.(?:.*\n){3}", "",
+          chosen=(1,)),
+    Fault("a start that does not heed its parameter", "room", (1,), "opens", r"(Self \{\n +)cap,", r"\1cap: 4,",
+          chosen=(4,)),
+    Fault("a start that copies what stands in the file", "queue", (1,), "opens", r"free: cap,", "free: 2,",
+          chosen=(2, 100)),
+    Fault("a start that copies another parameter", "queue", (1,), "opens", r"free: cap,", "free: last_item,",
+          chosen=(1, 1)),
+    Fault("parameters in another order", "queue", (1,), "opens", r"start\(cap, last_item\)", "start(last_item, cap)",
+          chosen=(1, 1)),
+    Fault("numbers that are not tested", "queue", (1,), "opens", r" +assert!.*\n", "", chosen=(1, 1)),
+    Fault("a limit that is too narrow", "room", (1,), "opens", r"cap >= 1\n", "cap > 1\n", chosen=(4,)),
+    Fault("a limit that no parameter has", "queue", (1,), "opens", r" && last_item < 1000\n", "\n", chosen=(1, 1)),
+    Fault("a copy with what stands in the file", "room", (1,), "copies", r"state: self\.state",
+          "state: State::start(4)", chosen=(4,)),
+    Fault("a copy without a count", "room", (1,), "copies", r"asleep_get: self\.asleep_get", "asleep_get: 0",
+          chosen=(4,)),
+    Fault("a guard that reads what stands in the file", "room", (2,), "keeps", r"self\.count < self\.cap",
+          "self.count < 4", chosen=(1,)),
     Fault("a note whatever the count: no fault", "buffer", (3, 2), None, NOTE, r"\1"),
 ]
 
 
-def explore(text, calls, names=r"\w+"):
+def explore(name, text, calls, chosen, names=r"\w+"):
     """What breaks, or None, and how many states were reached."""
     try:
-        return None, Explorer(Module(text, names), calls).run()
+        return None, Explorer(Module(text, MONITORS[name], chosen, names), calls).run()
     except Broken as broken:
         return str(broken), 0
 
 
-def judge(name, calls):
-    broken, states = explore(TEXTS[name], calls)
+def judge(name, calls, chosen):
+    broken, states = explore(name, TEXTS[name], calls, chosen)
     if broken:
-        sys.exit(f"{name}, calls of each thread {calls}: {broken}")
+        sys.exit(f"{name}, opened with {chosen}, calls of each thread {calls}: {broken}")
     return states
 
 
 def plant(fault):
     text, count = re.subn(fault.text, fault.instead, TEXTS[fault.module], count=1)
-    broken, _ = explore(text, fault.calls, fault.names)
+    broken, _ = explore(fault.module, text, fault.calls, fault.chosen, fault.names)
     if not count or broken != fault.breaks:
         sys.exit(f"{fault.module}, {fault.name}: {broken} and not {fault.breaks} is found, in {count} place")
 
 
 def main():
-    states = sum(judge(name, calls) for name, cases in CASES.items() for calls in cases)
+    states = sum(judge(name, calls, chosen) for name, cases in CASES.items() for calls in cases
+                 for chosen in choices(MONITORS[name]))
     for fault in FAULTS:
         plant(fault)
     print(f"{len(CASES)} modules lose no wake-up in {states} states, and {len(FAULTS) - 1} faults in them are found")
