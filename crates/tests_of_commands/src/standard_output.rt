@@ -37,14 +37,14 @@ const STRESS: &[&str] = &["expresso", "stress", "3"];
 
 const USAGE: &[u8] = b"usage:
 expresso check FILE
-expresso turns FILE CLIENTS [--set NAME=N]
+expresso turns FILE CLIENTS
 expresso compile FILE [--count] [--relay]
-expresso simulate FILE CLIENTS [--seed N] [--spurious K] [--count] [--relay] [--set NAME=N]
-expresso run FILE CLIENTS [--workers N] [--count] [--relay] [--set NAME=N]
+expresso simulate FILE CLIENTS [--seed N] [--spurious K] [--count] [--relay]
+expresso run FILE CLIENTS [--workers N] [--count] [--relay]
 expresso stress N [--workers N]
 expresso report FILE [--count] [--fits]
 expresso recheck FILE REPORT
-expresso block FILE CLIENTS [--count] [--set NAME=N]
+expresso block FILE CLIENTS [--count]
 expresso audit FILE PLAN [--count]
 expresso explain FILE [--count] [--fits]
 expresso emit FILE
